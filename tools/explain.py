@@ -14,7 +14,7 @@ import sys
 TOP = os.path.dirname(os.path.dirname(os.path.abspath(__file__)))
 # The heading of docs/FORMATS.md below which a file's kinds of faults stand.
 HEADINGS = {"mail": "senders", "replay": "schedule", "load": "dump", "census": "heap"}
-# As in crates/run_words: numbers with their ranges, flags, and how many other words.
+# As in crates/command_line: numbers with their ranges, flags, and how many other words.
 ROOM = {"cells": (64, 4_194_304), "minor": (4_096, 262_144), "keep": (1, 100),
         "versions": (1, 1_000_000), "cycles": (0, 4_000_000_000)}
 OPTIONS = {"run": ROOM, "image": ROOM, "mail": {it: ROOM[it] for it in ("cells", "cycles")},

@@ -6,7 +6,7 @@ use Rattle.std.specs.List.{list_all}
 use Rattle.std.proofs.lemmas.Bool.{and_from, and_parts, cond-true}
 use Rattle.std.proofs.lemmas.Bool.Decides.{nat_tests}
 use Rattle.doc_tree.specs.Words.{is_text_byte, text_of}
-use Rattle.line_words.specs.Line.{is_plain_byte}
+use Rattle.line_texts.specs.Line.{is_plain_byte}
 use Rattle.quoted_text.specs.Quoted.{unquoted_of}
 use Rattle.quoted_text.proofs.Laws.{from_quote}
 use Rattle.cmd_text.specs.Answers.{Gives}

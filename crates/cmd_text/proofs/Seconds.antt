@@ -6,8 +6,8 @@ use Rattle.std.proofs.Common.{Bor}
 use Rattle.std.specs.Prelude.{Vec}
 use Rattle.std.specs.declared.alloc.Global.{Global}
 use Rattle.doc_model.specs.declared.command.Command.{Command}
-use Rattle.line_words.specs.Lines.{lines_left, lines_of}
-use Rattle.line_words.proofs.Rests.{IsCut, cut_lines}
+use Rattle.line_texts.specs.Lines.{lines_left, lines_of}
+use Rattle.line_texts.proofs.Rests.{IsCut, cut_lines}
 use Rattle.cmd_text.proofs.Lines.{with_front}
 use Rattle.cmd_text.specs.Answers.{GivesAt, Reads}
 use Rattle.cmd_text.specs.Line.{and_then}

@@ -6,7 +6,7 @@ use Rattle.std.specs.Prelude.{if◌then◌else◌}
 use Rattle.std.specs.Str.Lines.{strip_carriage_return}
 use Rattle.std.proofs.lemmas.Slice.Eq.{bytes_eq-Decides}
 use Rattle.doc_model.specs.declared.command.Command.{Command}
-use Rattle.line_words.specs.Lines.{lines_of}
+use Rattle.line_texts.specs.Lines.{lines_of}
 use Rattle.cmd_text.specs.Form.{first_of, is_second}
 use Rattle.cmd_text.specs.Line.{bare_reading_of}
 use Rattle.cmd_text.specs.Script.{commands_from, first_script_of, with_line}

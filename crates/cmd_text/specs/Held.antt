@@ -9,8 +9,8 @@ use Rattle.std.specs.Prelude.{ℕ, Bool, true, false, not, ◌||◌, List, codes
 use Rattle.std.specs.Prelude.{if◌then◌else◌, Option, Some, None, Result, Ok, Err, ok_or}
 use Rattle.std.specs.List.{list_all}
 use Rattle.std.specs.Str.Lines.{strip_carriage_return}
-use Rattle.line_words.specs.Cut.{rest_of, word_of}
-use Rattle.line_words.specs.Line.{counts, is_plain_byte}
+use Rattle.line_texts.specs.Cut.{rest_of, word_of}
+use Rattle.line_texts.specs.Line.{counts, is_plain_byte}
 use Rattle.doc_model.specs.declared.command.Command.{Command}
 use Rattle.doc_model.specs.declared.command.Command.TheVariants as commands
 use Rattle.doc_model.specs.declared.edits.Edit.{Edit}

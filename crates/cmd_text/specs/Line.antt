@@ -7,9 +7,9 @@ use Rattle.std.specs.Prelude.{ℕ, not, List, [], ◌∷◌, length, drop, nat_l
 use Rattle.std.specs.Prelude.{Some, None, Result, Ok, Err, ok_or}
 use Rattle.std.specs.List.{list_all}
 use Rattle.std.specs.Str.Lines.{strip_carriage_return}
-use Rattle.line_words.specs.Cut.{word_of, rest_of, next_word_of, next_rest_of}
-use Rattle.line_words.specs.Line.{counts, is_plain_byte}
-use Rattle.line_words.specs.Numbers.{digits_of}
+use Rattle.line_texts.specs.Cut.{word_of, rest_of, next_word_of, next_rest_of}
+use Rattle.line_texts.specs.Line.{counts, is_plain_byte}
+use Rattle.line_texts.specs.Numbers.{digits_of}
 use Rattle.quoted_text.specs.Quoted.{unquoted_of}
 use Rattle.doc_tree.specs.Words.{path_of}
 use Rattle.doc_model.specs.declared.command.Command.{Command}

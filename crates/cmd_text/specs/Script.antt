@@ -4,7 +4,7 @@
 -- without a command too.
 -- Source: this project's own.
 use Rattle.std.specs.Prelude.{ℕ, ◌+◌, List, [], ◌∷◌, Option, Some, None, Result, Ok, Err}
-use Rattle.line_words.specs.Lines.{lines_of}
+use Rattle.line_texts.specs.Lines.{lines_of}
 use Rattle.doc_model.specs.declared.command.Command.{Command}
 use Rattle.cmd_text.specs.Line.{reading_of}
 use Rattle.cmd_text.specs.declared.fault.ScriptFault.{ScriptFault}

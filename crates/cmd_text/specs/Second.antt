@@ -5,7 +5,7 @@
 -- Source: this project's own.
 use Rattle.std.specs.Prelude.{ℕ, ◌+◌, List, [], ◌∷◌, ◌++◌, length, nat_lt, if◌then◌else◌, Option}
 use Rattle.std.specs.Prelude.{Some, None, is_some, Result, Ok, Err, drop}
-use Rattle.line_words.specs.Lines.{lines_of}
+use Rattle.line_texts.specs.Lines.{lines_of}
 use Rattle.doc_model.specs.declared.command.Command.{Command}
 use Rattle.doc_model.specs.declared.command.Command.TheVariants as commands
 use Rattle.doc_model.specs.declared.edits.Edit.{Edit}

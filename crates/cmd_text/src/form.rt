@@ -2,7 +2,7 @@
 ghost use Rattle.cmd_text.specs.Form.{form_of, is_second, version_of};
 ghost use Rattle.std.specs.Prelude.{bytes_eq, codes, ◌≡◌};
 
-use line_words::{cut_line, without_return};
+use line_texts::{cut_line, without_return};
 
 /// How texts are written: as they are, or between quotes.
 #[derive(Clone, Copy, Debug, PartialEq, Eq)]

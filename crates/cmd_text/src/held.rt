@@ -3,7 +3,7 @@ ghost use Rattle.cmd_text.specs.Answers.{Gives};
 ghost use Rattle.cmd_text.specs.Held.{edit_of, held_in, held_of, second_reading_of, within};
 ghost use Rattle.cmd_text.specs.Line.{and_then, arguments_in, at_end};
 ghost use Rattle.cmd_text.specs.declared.form.Form.TheVariants.{Quoted};
-ghost use Rattle.line_words.specs.Line.{is_plain_byte};
+ghost use Rattle.line_texts.specs.Line.{is_plain_byte};
 ghost use Rattle.std.specs.List.{list_all};
 ghost use Rattle.std.specs.Prelude.{IfOk, IsTrue, ◌≡◌};
 
@@ -14,7 +14,7 @@ use crate::recent_paths::RecentPaths;
 use crate::verb::Verb;
 use crate::word::Word;
 use doc_model::{Command, Edit, NoMemory};
-use line_words::{counts, first_word, is_plain, without_return};
+use line_texts::{counts, first_word, is_plain, without_return};
 use std::alloc::Global;
 
 /// What a line holds.

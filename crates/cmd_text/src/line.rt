@@ -4,7 +4,7 @@ ghost use Rattle.cmd_text.specs.Line.{and_then, arguments_in, command_of, last_p
 ghost use Rattle.cmd_text.specs.Line.{path_and_text_in, path_in, reading_of, short_text, text_in};
 ghost use Rattle.cmd_text.specs.declared.fault.ScriptKind.TheVariants.{NoQuote};
 ghost use Rattle.doc_tree.specs.Words.{is_text_byte};
-ghost use Rattle.line_words.specs.Line.{is_plain_byte};
+ghost use Rattle.line_texts.specs.Line.{is_plain_byte};
 ghost use Rattle.quoted_text.specs.Quoted.{unquoted_of};
 ghost use Rattle.std.specs.List.{list_all};
 ghost use Rattle.std.specs.Prelude.{IsTrue, ok_or};
@@ -14,7 +14,7 @@ use crate::form::Form;
 use crate::recent_paths::RecentPaths;
 use crate::verb::Verb;
 use doc_model::{Command, Path, Text};
-use line_words::{
+use line_texts::{
     after_space, counts, first_word, is_plain, next_rest, next_word, read_digits, without_return,
 };
 use quoted_text::read_quoted;

@@ -8,7 +8,7 @@ use crate::fault::{ScriptError, ScriptFault, ScriptKind};
 use crate::recent_paths::{RecentPaths, paths_for};
 use crate::script::commands_for;
 use doc_model::{Command, NoMemory};
-use line_words::cut_line;
+use line_texts::cut_line;
 use std::alloc::Global;
 
 /// The commands of a script of version 2, or its first faulty line.

@@ -3,7 +3,7 @@ use Rattle.std.proofs.Common.{◌≡◌, ◌≤◌, ◌+◌, ◌++◌, ◌∙◌
 use Rattle.std.proofs.Common.{add-one, ap, arith}
 use Rattle.core_machine.specs.State.{State, field_of}
 use Rattle.core_replay.specs.ReplayText.{fields_text}
-use Rattle.cell_texts.specs.Texts.{field_text}
+use Rattle.line_texts.specs.CellTexts.{field_text}
 
 -- the first fields, each after a space
 abbrev pub first_fields : State → ℕ → ℕ → List ℕ

@@ -6,7 +6,7 @@ use Rattle.std.specs.Prelude.{ℕ, IsTrue, not, List, if◌then◌else◌, Optio
 use Rattle.std.specs.Prelude.{Err}
 use Rattle.std.specs.List.{list_all}
 use Rattle.std.specs.Str.Lines.{strip_carriage_return}
-use Rattle.line_words.specs.Line.{counts, is_plain_byte}
+use Rattle.line_texts.specs.Line.{counts, is_plain_byte}
 use Rattle.core_replay.specs.Numbers.{and_then}
 use Rattle.core_replay.specs.Start.{start_of}
 use Rattle.core_replay.specs.Steps.{step_of}

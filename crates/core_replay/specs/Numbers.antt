@@ -7,8 +7,8 @@ use Rattle.std.specs.Prelude.{ℕ, ◌-◌, ◌^◌, ◌&&◌, List, [], ◌∷�
 use Rattle.std.specs.Prelude.{Option, Some, None, Result, Ok, Err}
 use Rattle.cell_words.specs.declared.fields.Field.{Field}
 use Rattle.cell_words.specs.declared.fields.Field.TheVariants as fields
-use Rattle.line_words.specs.Cut.{next_word_of}
-use Rattle.line_words.specs.Numbers.{digits_of}
+use Rattle.line_texts.specs.Cut.{next_word_of}
+use Rattle.line_texts.specs.Numbers.{digits_of}
 use Rattle.core_replay.specs.declared.fault.ScheduleKind.{ScheduleKind}
 use Rattle.core_replay.specs.declared.fault.ScheduleKind.TheVariants.{BadNumber}
 

@@ -1,7 +1,7 @@
 -- The lines that a replay writes.
 -- Source: this project's.
 use Rattle.std.specs.Prelude.{ℕ, List, ◌++◌, codes, decimal}
-use Rattle.cell_texts.specs.Texts.{colour_text, field_text}
+use Rattle.line_texts.specs.CellTexts.{colour_text, field_text}
 use Rattle.core_machine.specs.State.{State, colour_of, field_of, freed_of, free_count_of}
 use Rattle.core_replay.specs.Standing.{Standing}
 

@@ -4,7 +4,7 @@
 -- do not count too. Where no line counts, the first is at fault.
 -- Source: this project's.
 use Rattle.std.specs.Prelude.{ℕ, ◌+◌, List, [], ◌∷◌, Option, Some, None, Result, Ok, Err}
-use Rattle.line_words.specs.Lines.{lines_of}
+use Rattle.line_texts.specs.Lines.{lines_of}
 use Rattle.core_replay.specs.Lines.{reading_of}
 use Rattle.core_replay.specs.declared.fault.ScheduleFault.{ScheduleFault}
 use Rattle.core_replay.specs.declared.fault.ScheduleKind.{ScheduleKind}

@@ -2,7 +2,7 @@
 -- Source: this project's.
 use Rattle.std.specs.Prelude.{ℕ, List, [], ◌∷◌, codes, bytes_eq, nat_le, if◌then◌else◌, Result, Ok}
 use Rattle.std.specs.Prelude.{Err}
-use Rattle.line_words.specs.Cut.{word_of, rest_of, next_word_of, next_rest_of}
+use Rattle.line_texts.specs.Cut.{word_of, rest_of, next_word_of, next_rest_of}
 use Rattle.core_replay.specs.Numbers.{and_then, number_to}
 use Rattle.core_replay.specs.declared.fault.ScheduleKind.{ScheduleKind}
 use Rattle.core_replay.specs.declared.fault.ScheduleKind.TheVariants.{NoStart, BadNumber, Extra}

@@ -10,7 +10,7 @@ use Rattle.cell_words.specs.declared.fields.Kind.{Kind}
 use Rattle.cell_words.specs.declared.fields.Kind.TheVariants as kinds
 use Rattle.core_machine.specs.declared.events.Event.{Event}
 use Rattle.core_machine.specs.declared.events.Event.TheVariants as event
-use Rattle.line_words.specs.Cut.{word_of, rest_of, next_word_of, next_rest_of}
+use Rattle.line_texts.specs.Cut.{word_of, rest_of, next_word_of, next_rest_of}
 use Rattle.core_replay.specs.Numbers.{and_then, index_in, value_in}
 use Rattle.core_replay.specs.Start.{at_end}
 use Rattle.core_replay.specs.declared.fault.ScheduleKind.{ScheduleKind}

@@ -14,7 +14,7 @@ use crate::numbers::{read_index, read_value};
 use crate::step::Step;
 use crate::verb::{Single, Verb, bare_step, duty_named, is, kind_named, stage_named};
 use core_machine::Event;
-use line_words::{first_word, next_rest, next_word};
+use line_texts::{first_word, next_rest, next_word};
 
 /// The step of a line.
 pub(crate) fn read_step(line: &[u8]) -> Result<Step, ScheduleKind>

@@ -6,7 +6,7 @@ use crate::event::read_step;
 use crate::fault::ScheduleKind;
 use crate::start::{Sizes, read_start};
 use crate::step::Step;
-use line_words::{counts, is_plain, without_return};
+use line_texts::{counts, is_plain, without_return};
 
 /// A step of a schedule, with the number of its line.
 #[derive(Clone, Copy, Debug, PartialEq, Eq)]

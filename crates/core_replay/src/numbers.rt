@@ -4,7 +4,7 @@ ghost use Rattle.std.specs.Prelude.{◌∷◌, ◌≡◌};
 
 use crate::fault::ScheduleKind;
 use cell_words::Field;
-use line_words::{next_word, read_digits};
+use line_texts::{next_word, read_digits};
 
 /// The next word, as the number of a mutator, a cell, a place, a field, or as a count.
 pub(crate) fn read_index(rest: &[u8]) -> Result<u32, ScheduleKind>

@@ -1,12 +1,12 @@
 //! The lines that a replay writes, each with its line feed.
-ghost use Rattle.cell_texts.specs.Texts.{colour_text, field_text};
+ghost use Rattle.line_texts.specs.CellTexts.{colour_text, field_text};
 ghost use Rattle.core_machine.specs.State.{State};
 ghost use Rattle.core_replay.specs.ReplayText.{cell_line_of, ending_line};
 ghost use Rattle.core_replay.specs.ReplayText.{fields_text, not_now_line, six_texts};
 ghost use Rattle.std.specs.Prelude.{IfOk, codes, string_bytes, ◌++◌, ◌<◌, ◌≡◌};
 
-use cell_texts::{colour_text, with_field};
 use dlg_core::{Core, NoMemory};
+use line_texts::{colour_text, with_field};
 use std::alloc::Global;
 
 /// The line of a cell.

@@ -7,7 +7,7 @@ use crate::event::at_end;
 use crate::fault::ScheduleKind;
 use crate::numbers::read_number;
 use crate::verb::is;
-use line_words::{first_word, next_rest, next_word};
+use line_texts::{first_word, next_rest, next_word};
 
 /// The sizes of a core: its cells, its mutators, and the room of every mutator.
 #[derive(Clone, Copy, Debug, PartialEq, Eq)]

@@ -1,4 +1,4 @@
-//! What no clause says of outside, run_words and thread_waits: each shelf and sink on its happy
+//! What no clause says of outside, command_line and thread_waits: each shelf and sink on its happy
 //! path, what a file and a device do, who meets at a gate, which numbers a command line asks for,
 //! and that a wait takes its time.
 #![tactic(auto)]

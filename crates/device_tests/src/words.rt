@@ -1,6 +1,6 @@
 //! Command lines with the numbers that are asked for. The rows of examples/rows show where files
 //! and options stand, and what is no such line.
-use run_words::*;
+use command_line::*;
 use std::alloc::{AllocError, Global};
 use std::test::Fail;
 

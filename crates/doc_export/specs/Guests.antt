@@ -9,7 +9,7 @@ use Rattle.heap_table.specs.Seats.{HeapId, IsSeatOf}
 use Rattle.mutator_seat.specs.Bound.{Bound}
 use Rattle.trails.specs.Asks.{InOrder}
 use Rattle.trails.specs.Marks.{Mark, marks_of}
-use Rattle.version_dump.specs.Dump.{dump_of}
+use Rattle.dump_text.specs.Dump.{dump_of}
 use Rattle.version_export.specs.declared.fault.DumpFault.{DumpFault}
 use Rattle.version_export.specs.declared.fault.DumpFault.TheVariants as faults
 use Rattle.version_rule.specs.Fits.{Fits, HasTree}

@@ -6,10 +6,10 @@ ghost use Rattle.std.specs.Thread.{IsSync};
 
 use crate::ending::Ending;
 use crate::guest::{Guest, Through, take_version};
+use client_history::Documents;
 use client_run::Limits;
 use client_threads::{Client, run_each};
 use doc_model::Command;
-use client_history::Documents;
 use free_cells::FreeQueue;
 use heap_table::CellHeap;
 use std::alloc::Global;

@@ -1,6 +1,6 @@
 use cell_heap::Passes;
-use doc_model::Log;
 use client_history::Documents;
+use doc_model::Log;
 
 /// The result of a run during which a version was dumped: what each client was answered, what all
 /// seats had at the close, and the version.

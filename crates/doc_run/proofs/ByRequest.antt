@@ -5,12 +5,12 @@ use Rattle.std.proofs.Common.{ap, arith, inl, inr, map, refl, subst, sym}
 use Rattle.std.specs.Prelude.{◌⊎◌, ◌≢◌, IsNone, IsSomeAnd}
 use Rattle.doc_export.specs.declared.dumped.Dumped.{Dumped}
 use Rattle.mail_run.specs.declared.finished.MailRun.{MailRun}
-use Rattle.run_words.specs.Requests.{Asked, Run, Replay, Gen, Load, Image, Dump, Census, Mail}
-use Rattle.run_words.specs.Requests.{Gives, asked_by, request_of}
-use Rattle.run_words.specs.declared.request.Request.{Request}
-use Rattle.run_words.specs.declared.request.WordsFault.{WordsFault}
-use Rattle.run_words.specs.declared.request.WordsFault.TheVariants as words_fault
-use Rattle.run_words.specs.declared.request.GenWords.{GenWords}
+use Rattle.command_line.specs.Requests.{Asked, Run, Replay, Gen, Load, Image, Dump, Census, Mail}
+use Rattle.command_line.specs.Requests.{Gives, asked_by, request_of}
+use Rattle.command_line.specs.declared.request.Request.{Request}
+use Rattle.command_line.specs.declared.request.WordsFault.{WordsFault}
+use Rattle.command_line.specs.declared.request.WordsFault.TheVariants as words_fault
+use Rattle.command_line.specs.declared.request.GenWords.{GenWords}
 use Rattle.script_files.proofs.Opens.{stops_none}
 use Rattle.script_files.specs.Fault.{status_by}
 use Rattle.script_files.specs.InTurn.{most_commands}

@@ -6,7 +6,7 @@ use Rattle.std.specs.Prelude.{IsOk}
 use Rattle.outside.specs.Calls.{IsOrderly, IsUnbroken}
 use Rattle.outside.specs.Causes.{Rose}
 use Rattle.outside.specs.declared.course.Course.{Course}
-use Rattle.run_words.specs.Requests.{Asked}
+use Rattle.command_line.specs.Requests.{Asked}
 use Rattle.script_files.proofs.Sorting.{is_reading}
 use Rattle.script_files.specs.Fault.{status_by, status_of}
 use Rattle.script_files.specs.Sorts.{sort_of}

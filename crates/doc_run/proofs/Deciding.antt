@@ -7,8 +7,8 @@ use Rattle.client_run.specs.declared.options.Options.{Options}
 use Rattle.cmd_text.specs.declared.form.Form.{Form}
 use Rattle.doc_export.specs.declared.dumped.Dumped.{Dumped}
 use Rattle.doc_model.specs.declared.command.Command.{Command}
-use Rattle.run_words.specs.Requests.{Asked, Dump, Gen, Mail, MailAsked, RunAsked}
-use Rattle.run_words.specs.declared.request.GenWords.{GenWords}
+use Rattle.command_line.specs.Requests.{Asked, Dump, Gen, Mail, MailAsked, RunAsked}
+use Rattle.command_line.specs.declared.request.GenWords.{GenWords}
 use Rattle.script_files.specs.Formed.{AreRead}
 use Rattle.script_files.specs.InTurn.{most_commands}
 use Rattle.script_files.specs.Mail.{IsMail}

@@ -5,7 +5,7 @@ use Rattle.std.specs.Prelude.{◌⊎◌, ◌↔◌, IsNone, IsSome}
 use Rattle.std.specs.Io.KnownBytes.{Appends}
 use Rattle.doc_export.specs.declared.dumped.Dumped.{Dumped}
 use Rattle.outside.specs.Pieces.{AppendsPart}
-use Rattle.run_words.specs.Requests.{Asked}
+use Rattle.command_line.specs.Requests.{Asked}
 use Rattle.script_files.specs.Fault.{status_by, status_of}
 use Rattle.script_files.specs.Sorts.{sort_of}
 use Rattle.script_files.specs.declared.fault.Fault.{Fault}

@@ -12,8 +12,8 @@ use Rattle.mail_run.specs.declared.finished.MailRun.{MailRun}
 use Rattle.outside.specs.Calls.{IsOrderly, IsUnbroken}
 use Rattle.outside.specs.Causes.{Rose, next_count}
 use Rattle.outside.specs.declared.course.Course.{Course}
-use Rattle.run_words.specs.Requests.{Asked, Gen, Run, RunAsked}
-use Rattle.run_words.specs.declared.request.GenWords.{GenWords}
+use Rattle.command_line.specs.Requests.{Asked, Gen, Run, RunAsked}
+use Rattle.command_line.specs.declared.request.GenWords.{GenWords}
 use Rattle.script_files.specs.Fault.{status_of}
 use Rattle.script_files.specs.Files.{OpensInTurn, opened}
 use Rattle.script_files.specs.InTurn.{most_commands}

@@ -6,7 +6,7 @@ use Rattle.std.specs.declared.alloc.Global.{Global}
 use Rattle.std.proofs.lemmas.List.Sums.{sum_by-cons}
 use Rattle.mail_run.specs.Comes.{lines_in}
 use Rattle.mail_run.specs.declared.finished.MailRun.{MailRun}
-use Rattle.run_words.specs.Requests.{MailAsked}
+use Rattle.command_line.specs.Requests.{MailAsked}
 use Rattle.script_files.specs.Mail.{IsMail, values_of}
 use Rattle.script_files.specs.declared.fault.Fault.{Fault}
 use Rattle.doc_run.specs.Mailed.{DecidesMailRun, FinishesMail}

@@ -7,9 +7,9 @@ use Rattle.std.proofs.lemmas.List.Elements.{All-cons, All-nil}
 use Rattle.std.proofs.lemmas.List.Sums.{sum_by-cons}
 use Rattle.client_run.specs.Options.{IsWithin}
 use Rattle.doc_model.specs.declared.command.Command.{Command}
-use Rattle.run_words.specs.Limits.{IsRunWithin}
-use Rattle.run_words.specs.Requests.{run_asked_by}
-use Rattle.run_words.specs.declared.request.RunWords.{RunWords}
+use Rattle.command_line.specs.Limits.{IsRunWithin}
+use Rattle.command_line.specs.Requests.{run_asked_by}
+use Rattle.command_line.specs.declared.request.RunWords.{RunWords}
 use Rattle.doc_run.specs.Clients.{default_options, options_of}
 
 -- the options of a run

@@ -14,8 +14,8 @@ use Rattle.script_files.specs.Sorts.{OfDumps, OfImages, OfSchedules, Refused, So
 use Rattle.script_files.specs.Sorts.{OfWords, OfLine, OfReading, OfWriting, OfMemory, OfSize}
 use Rattle.script_files.specs.declared.fault.Fault.{Fault}
 use Rattle.script_files.specs.declared.fault.Fault.TheVariants.{Dump, Image, ReadFault, Schedule}
-use Rattle.version_dump.specs.Contents.{Contents, contents_of}
-use Rattle.version_dump.specs.declared.fault.LoadFault.{LoadFault}
+use Rattle.dump_text.specs.Contents.{Contents, contents_of}
+use Rattle.dump_text.specs.declared.fault.LoadFault.{LoadFault}
 use Rattle.doc_run.specs.Reading.{Decides, IsAnswerOf, IsFaultyFile, IsFileDue, IsGoodFile}
 use Rattle.doc_run.specs.Reading.{grammar_of}
 use Rattle.doc_run.specs.declared.reading.Reading.{Reading}

@@ -12,9 +12,9 @@ use Rattle.doc_model.specs.Merge.{IsMerge, all_entries}
 use Rattle.doc_model.specs.Store.{opening}
 use Rattle.doc_model.specs.declared.command.Command.{Command}
 use Rattle.doc_model.specs.declared.command.Entry.{Entry}
-use Rattle.run_output.specs.Summary.{summary_text_of}
-use Rattle.run_output.specs.declared.summary.Made.{Made}
-use Rattle.run_words.specs.declared.request.GenWords.{GenWords}
+use Rattle.result_text.specs.Summary.{summary_text_of}
+use Rattle.result_text.specs.declared.summary.Made.{Made}
+use Rattle.command_line.specs.declared.request.GenWords.{GenWords}
 use Rattle.script_files.proofs.Counting.{scripts_few, scripts_length, texts_length}
 use Rattle.script_files.specs.Made.{texts_from}
 use Rattle.store_run.specs.Answered.{commands_of}

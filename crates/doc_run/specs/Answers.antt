@@ -8,8 +8,8 @@ use Rattle.std.specs.Prelude.{IsSome, Result, Ok, Err, ◌⊎◌, map, Vec}
 use Rattle.std.specs.declared.alloc.Global.{Global}
 use Rattle.doc_export.specs.declared.dumped.Dumped.{Dumped}
 use Rattle.mail_run.specs.declared.finished.MailRun.{MailRun}
-use Rattle.run_words.specs.Requests.{Asked, Run, Replay, Gen, Load, Image, Dump, Census, Mail}
-use Rattle.run_words.specs.declared.request.GenWords.{GenWords}
+use Rattle.command_line.specs.Requests.{Asked, Run, Replay, Gen, Load, Image, Dump, Census, Mail}
+use Rattle.command_line.specs.declared.request.GenWords.{GenWords}
 use Rattle.script_files.specs.InTurn.{most_commands}
 use Rattle.script_files.specs.Mail.{IsMail}
 use Rattle.script_files.specs.Scripts.{AreScripts}

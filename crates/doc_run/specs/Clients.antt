@@ -7,8 +7,8 @@ use Rattle.std.specs.Prelude.{◌≡◌, ℕ, List, Option, Result, Ok, Err}
 use Rattle.client_run.specs.declared.options.Options.{Options}
 use Rattle.cmd_text.specs.declared.form.Form.{Form}
 use Rattle.doc_model.specs.declared.command.Command.{Command}
-use Rattle.run_words.specs.Requests.{RunAsked}
-use Rattle.run_words.specs.declared.request.GenWords.{GenWords}
+use Rattle.command_line.specs.Requests.{RunAsked}
+use Rattle.command_line.specs.declared.request.GenWords.{GenWords}
 use Rattle.script_files.specs.Formed.{AreRead}
 use Rattle.script_files.specs.Made.{AreMade}
 use Rattle.script_files.specs.Scripts.{AreScripts}

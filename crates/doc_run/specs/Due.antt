@@ -2,7 +2,7 @@
 -- Source: this project's own.
 use Rattle.std.specs.Prelude.{ℕ, List, Option, None, Some, IfSome, map}
 use Rattle.doc_export.specs.declared.dumped.Dumped.{Dumped}
-use Rattle.run_words.specs.Requests.{Asked, Run, Replay, Gen, Load, Image, Dump, Census, Mail}
+use Rattle.command_line.specs.Requests.{Asked, Run, Replay, Gen, Load, Image, Dump, Census, Mail}
 use Rattle.script_files.specs.Mail.{IsMailDueFor}
 use Rattle.script_files.specs.Scripts.{IsDueFor}
 use Rattle.doc_run.specs.Guested.{IsDumpDueFor}

@@ -3,11 +3,11 @@
 use Rattle.std.specs.Prelude.{◌≡◌, ◌≢◌, ℕ, ◌*◌, ◌<◌, ◌≤◌, List, ◌⊎◌, ◌↔◌, true}
 use Rattle.doc_model.specs.Merge.{IsMerge}
 use Rattle.doc_model.specs.declared.command.Entry.{Entry}
-use Rattle.run_output.specs.Summary.{summary_text_of}
-use Rattle.run_output.specs.declared.summary.Made.{Made}
-use Rattle.run_words.specs.declared.request.GenWords.{GenWords}
+use Rattle.result_text.specs.Summary.{summary_text_of}
+use Rattle.result_text.specs.declared.summary.Made.{Made}
+use Rattle.command_line.specs.declared.request.GenWords.{GenWords}
 use Rattle.script_files.specs.InTurn.{most_commands}
-use Rattle.script_generator.specs.Generated.{generated_of}
+use Rattle.script_files.specs.Generated.{generated_of}
 use Rattle.store_run.specs.declared.finished.Finished.{Finished}
 
 -- by which numbers scripts are generated

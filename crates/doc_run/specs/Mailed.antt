@@ -3,8 +3,8 @@
 use Rattle.std.specs.Prelude.{◌≡◌, ℕ, List, Option, Result, Ok, Err}
 use Rattle.mail_run.specs.Comes.{ComesMail}
 use Rattle.mail_run.specs.declared.finished.MailRun.{MailRun}
-use Rattle.run_output.specs.Mailed.{mailed_text_of}
-use Rattle.run_words.specs.Requests.{MailAsked}
+use Rattle.result_text.specs.Mailed.{mailed_text_of}
+use Rattle.command_line.specs.Requests.{MailAsked}
 use Rattle.script_files.specs.Mail.{IsMail}
 use Rattle.script_files.specs.Sorts.{OfMail, Refused, sort_of}
 use Rattle.script_files.specs.declared.fault.Fault.{Fault}

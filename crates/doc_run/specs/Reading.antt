@@ -7,8 +7,8 @@ use Rattle.std.specs.Prelude.{Err, ◌⊎◌, ◌↔◌, Vec}
 use Rattle.std.specs.declared.alloc.Global.{Global}
 use Rattle.doc_tree.specs.Tree.{DocTree}
 use Rattle.heap_census.specs.declared.numbers.Census.{Census}
-use Rattle.run_output.specs.Counted.{census_text_of}
-use Rattle.run_output.specs.Loaded.{loaded_text_of}
+use Rattle.result_text.specs.Counted.{census_text_of}
+use Rattle.result_text.specs.Loaded.{loaded_text_of}
 use Rattle.script_files.specs.Counted.{HoldsImage, IsFaultyImage, IsImageFile, OfBytes}
 use Rattle.script_files.specs.Counted.{RefusesBytes}
 use Rattle.script_files.specs.Loaded.{HoldsDump, IsDumpFile, IsDumpRead, IsFaultyDump}

@@ -5,7 +5,7 @@ use Rattle.std.specs.Prelude.{Result, Ok, Err}
 use Rattle.outside.specs.Calls.{IsUnbroken, IsOrderly}
 use Rattle.outside.specs.Causes.{Rose}
 use Rattle.outside.specs.declared.course.Course.{Course}
-use Rattle.run_words.specs.Requests.{Asked, Run, Replay, Gen, Load, Image, Dump, Census, Mail}
+use Rattle.command_line.specs.Requests.{Asked, Run, Replay, Gen, Load, Image, Dump, Census, Mail}
 use Rattle.script_files.specs.Fault.{status_of}
 use Rattle.script_files.specs.Files.{opened}
 use Rattle.script_files.specs.Mail.{StopsAtMail}

@@ -5,9 +5,9 @@ use Rattle.cmd_text.specs.declared.form.Form.{Form}
 use Rattle.doc_model.specs.Answers.{Limits}
 use Rattle.doc_model.specs.declared.command.Command.{Command}
 use Rattle.doc_tree.specs.Tree.{DocTree}
-use Rattle.run_output.specs.Output.{IsOutput}
-use Rattle.run_output.specs.declared.output.Shown.{Shown}
-use Rattle.run_words.specs.Requests.{RunAsked}
+use Rattle.result_text.specs.Output.{IsOutput}
+use Rattle.result_text.specs.declared.output.Shown.{Shown}
+use Rattle.command_line.specs.Requests.{RunAsked}
 use Rattle.script_files.specs.Formed.{AreRead}
 use Rattle.store_run.specs.Answered.{Answered}
 use Rattle.store_run.specs.declared.finished.Finished.{Finished}

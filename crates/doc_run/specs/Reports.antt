@@ -7,8 +7,8 @@ use Rattle.core_machine.specs.State.{State}
 use Rattle.heap_census.specs.Heap.{heap_of}
 use Rattle.heap_census.specs.ImageText.{image_text}
 use Rattle.heap_table.specs.Images.{ImageView, Shows}
-use Rattle.run_output.specs.Output.{IsOutput}
-use Rattle.run_output.specs.declared.output.Shown.{Shown}
+use Rattle.result_text.specs.Output.{IsOutput}
+use Rattle.result_text.specs.declared.output.Shown.{Shown}
 use Rattle.store_run.specs.declared.finished.Finished.{Finished}
 use Rattle.doc_run.specs.declared.report.Report.{Report}
 use Rattle.doc_run.specs.declared.report.Report.TheVariants.{Replies, Heap}

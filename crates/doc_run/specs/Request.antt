@@ -1,8 +1,8 @@
 -- What a request names, and what it asks for.
 -- Source: this project's own.
 use Rattle.std.specs.Prelude.{ℕ, List, [], ◌∷◌, length, Option, None, Some}
-use Rattle.run_words.specs.Requests.{Asked, Run, Replay, Gen, Load, Image, Dump, Census, Mail}
-use Rattle.run_words.specs.Requests.{RunAsked}
+use Rattle.command_line.specs.Requests.{Asked, Run, Replay, Gen, Load, Image, Dump, Census, Mail}
+use Rattle.command_line.specs.Requests.{RunAsked}
 use Rattle.script_files.specs.Files.{files_read}
 use Rattle.script_files.specs.Mail.{senders_read}
 use Rattle.doc_run.specs.Guested.{few_read}

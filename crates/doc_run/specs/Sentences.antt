@@ -12,7 +12,7 @@ use Rattle.outside.specs.Calls.{IsUnbroken, IsOrderly}
 use Rattle.outside.specs.Causes.{Rose}
 use Rattle.outside.specs.Pieces.{AppendsPart}
 use Rattle.outside.specs.declared.course.Course.{Course}
-use Rattle.run_words.specs.Requests.{Asked}
+use Rattle.command_line.specs.Requests.{Asked}
 use Rattle.script_files.specs.Files.{opened}
 use Rattle.script_files.specs.declared.fault.Fault.{Fault}
 use Rattle.script_files.specs.declared.fault.Fault.TheVariants.{ReadFault}

@@ -2,7 +2,7 @@
 ghost use Rattle.std.specs.Prelude.{◌≤◌, Some, length};
 ghost use Rattle.doc_run.specs.Answers.{Decided, IsOfDump, refusal_of};
 ghost use Rattle.doc_run.specs.Reads.{Reads};
-ghost use Rattle.run_words.specs.Requests.{Dump, names_by};
+ghost use Rattle.command_line.specs.Requests.{Dump, names_by};
 
 use crate::answer::{Answer, Refusal};
 use crate::clients::dump_files;

@@ -4,15 +4,15 @@ ghost use Rattle.client_run.specs.Options.{IsWithin};
 ghost use Rattle.doc_run.specs.Clients.{DecidesRun, Finishes, FinishesWith, MakesRun, options_of};
 ghost use Rattle.doc_run.specs.Guested.{DecidesDump, FinishesDump};
 ghost use Rattle.doc_run.specs.Reads.{Reads, err_of};
-ghost use Rattle.run_words.specs.Limits.{IsGenWithin, IsRunWithin};
-ghost use Rattle.run_words.specs.Requests.{Dump, Run, names_by, run_asked_by};
+ghost use Rattle.command_line.specs.Limits.{IsGenWithin, IsRunWithin};
+ghost use Rattle.command_line.specs.Requests.{Dump, Run, names_by, run_asked_by};
 ghost use Rattle.script_files.specs.Reading.{lists_of};
 
 use cmd_text::Form;
+use command_line::{GenWords, RunWords};
 use doc_export::{Dumped, dump_run};
 use doc_model::Command;
 use outside::{Gate, READ_LIMIT, Shelf};
-use run_words::{GenWords, RunWords};
 use script_files::{Fault, Scripts, scripts_in_files, scripts_made};
 use std::alloc::Global;
 use std::sync::Wait;

@@ -1,16 +1,15 @@
 //! Generated scripts: they are run, or one of them is printed.
 ghost use Rattle.std.specs.Prelude.{◌≡◌, ℕ, ◌*◌, ◌≤◌, List, Option, None, Some};
 ghost use Rattle.doc_run.specs.Answers.{Decided};
-ghost use Rattle.run_words.specs.Limits.{IsGenWithin};
-ghost use Rattle.run_words.specs.Requests.{Gen};
+ghost use Rattle.command_line.specs.Limits.{IsGenWithin};
+ghost use Rattle.command_line.specs.Requests.{Gen};
 
 use crate::answer::{Answer, Refusal};
 use crate::clients::run_made;
 use crate::summary::summary_of;
+use command_line::GenWords;
 use outside::Gate;
-use run_words::GenWords;
-use script_files::{Fault, is_too_large};
-use script_generator::generated;
+use script_files::{Fault, generated, is_too_large};
 use std::alloc::Global;
 use std::sync::Wait;
 use std::thread::Threads;

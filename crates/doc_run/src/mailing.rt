@@ -3,16 +3,16 @@ ghost use Rattle.std.specs.Prelude.{◌≤◌, ◌<◌, ◌^◌, All, IfOk, Some
 ghost use Rattle.doc_run.specs.Answers.{Decided, refusal_of};
 ghost use Rattle.doc_run.specs.Mailed.{DecidesMailRun, FinishesMail, IsMailedText};
 ghost use Rattle.doc_run.specs.Reads.{Reads, err_of};
-ghost use Rattle.run_words.specs.Limits.{IsMailWithin};
-ghost use Rattle.run_words.specs.Requests.{Mail, mail_asked_by};
+ghost use Rattle.command_line.specs.Limits.{IsMailWithin};
+ghost use Rattle.command_line.specs.Requests.{Mail, mail_asked_by};
 ghost use Rattle.script_files.specs.Mail.{values_of};
 
 use crate::answer::{Answer, Refusal};
+use command_line::MailWords;
 use doc_model::NoMemory;
 use mail_run::{MailRun, mail_run};
 use outside::{READ_LIMIT, Shelf};
-use run_output::mailed_text;
-use run_words::MailWords;
+use result_text::mailed_text;
 use script_files::{Fault, mail_in_files};
 use std::alloc::Global;
 use std::sync::Wait;

@@ -9,7 +9,7 @@ ghost use Rattle.doc_run.specs.Request.{asked_of};
 
 use crate::answer::{Answer, Refusal};
 use outside::{READ_LIMIT, Shelf};
-use run_output::{census_text, loaded_text};
+use result_text::{census_text, loaded_text};
 use script_files::{Fault, census_in_file, dump_in_file, replay_in_file};
 use std::alloc::Global;
 

@@ -2,13 +2,13 @@
 ghost use Rattle.std.specs.Prelude.{◌≡◌, IfOk};
 ghost use Rattle.doc_run.specs.Replies.{shown_of};
 ghost use Rattle.doc_run.specs.Reports.{Tells};
-ghost use Rattle.run_words.specs.Requests.{run_asked_by};
+ghost use Rattle.command_line.specs.Requests.{run_asked_by};
 
 use crate::clients::Ran;
+use command_line::RunWords;
 use doc_model::NoMemory;
 use heap_census::images::image_text;
-use run_output::{Shown, output_text};
-use run_words::RunWords;
+use result_text::{Shown, output_text};
 use std::alloc::Global;
 
 /// What is written of a run.

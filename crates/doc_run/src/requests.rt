@@ -3,7 +3,7 @@
 //! The words are read with memory, which may run out before all else.
 ghost use Rattle.doc_run.specs.Answers.{Decided, refusal_of};
 ghost use Rattle.doc_run.specs.Reads.{Reads};
-ghost use Rattle.run_words.specs.Requests.{request_of};
+ghost use Rattle.command_line.specs.Requests.{request_of};
 
 use crate::answer::{Answer, Refusal};
 use crate::beside::dump_beside;
@@ -13,8 +13,8 @@ use crate::reading::{Reading, answer_file};
 use crate::report::Report;
 use crate::scripts::run_scripts;
 use crate::words::Words;
+use command_line::{Request, WordsFault, read_words};
 use outside::{Gate, READ_LIMIT, Shelf};
-use run_words::{Request, WordsFault, read_words};
 use script_files::Fault;
 use std::alloc::Global;
 use std::sync::Wait;

@@ -3,14 +3,14 @@ ghost use Rattle.std.specs.Prelude.{Some};
 ghost use Rattle.doc_run.specs.Answers.{Decided, refusal_of};
 ghost use Rattle.doc_run.specs.Reads.{Reads};
 ghost use Rattle.doc_run.specs.Request.{asked_for};
-ghost use Rattle.run_words.specs.Limits.{IsRunWithin};
-ghost use Rattle.run_words.specs.Requests.{run_asked_by};
+ghost use Rattle.command_line.specs.Limits.{IsRunWithin};
+ghost use Rattle.command_line.specs.Requests.{run_asked_by};
 
 use crate::answer::{Answer, Refusal};
 use crate::clients::{Ran, run_files};
 use crate::report::{Report, report_text};
+use command_line::RunWords;
 use outside::{Gate, READ_LIMIT, Shelf};
-use run_words::RunWords;
 use script_files::Fault;
 use std::alloc::Global;
 use std::sync::Wait;

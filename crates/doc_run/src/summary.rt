@@ -2,11 +2,11 @@
 ghost use Rattle.std.specs.Prelude.{◌≡◌, ◌*◌, ◌≤◌, IfOk};
 ghost use Rattle.doc_run.specs.Clients.{IsRunGiven, IsMade, default_options};
 ghost use Rattle.doc_run.specs.Made.{IsSummaryOf, numbers_of};
-ghost use Rattle.run_words.specs.Limits.{IsGenWithin};
+ghost use Rattle.command_line.specs.Limits.{IsGenWithin};
 
+use command_line::GenWords;
 use doc_model::{NoMemory, is_legal, merge};
-use run_output::{Made, summary_text};
-use run_words::GenWords;
+use result_text::{Made, summary_text};
 use std::alloc::Global;
 use store_run::Finished;
 

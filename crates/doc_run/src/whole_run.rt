@@ -8,7 +8,7 @@ ghost use Rattle.doc_run.specs.Due.{IsDueOf};
 ghost use Rattle.doc_run.specs.Guested.{IsTooLarge};
 ghost use Rattle.doc_run.specs.Request.{ForClients, ForDump, ForMailbox, kind_of};
 ghost use Rattle.doc_run.specs.Sentences.{Calls, Completed, Failures, Refusals, Written};
-ghost use Rattle.run_words.specs.Requests.{request_of};
+ghost use Rattle.command_line.specs.Requests.{request_of};
 ghost use Rattle.script_files.specs.Fault.{status_of};
 
 use crate::outcome::Outcome;

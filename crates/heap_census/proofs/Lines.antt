@@ -2,7 +2,7 @@
 use Rattle.std.specs.Prelude.{codes, decimal, if◌then◌else◌}
 use Rattle.std.proofs.Common.{◌≡◌, ◌≤◌, ◌++◌, ◌+◌, ◌∙◌, ℕ, true, false, List, [], ap, add-one}
 use Rattle.std.proofs.Common.{append_assoc, append-nil, arith, sym}
-use Rattle.cell_texts.specs.Texts.{colour_text, field_text}
+use Rattle.line_texts.specs.CellTexts.{colour_text, field_text}
 use Rattle.heap_census.specs.Heap.{Heap, is_free}
 use Rattle.heap_census.specs.ImageText.{cell_line, cell_lines, fields_text, image_text}
 

@@ -1,7 +1,7 @@
 -- A closed heap as text: a head, a line for each cell in use, and an end.
 -- Source: this project's.
 use Rattle.std.specs.Prelude.{ℕ, zero, suc, List, [], ◌++◌, codes, decimal, if◌then◌else◌}
-use Rattle.cell_texts.specs.Texts.{colour_text, field_text}
+use Rattle.line_texts.specs.CellTexts.{colour_text, field_text}
 use Rattle.heap_census.specs.Heap.{Heap, is_free}
 
 -- the first fields of a cell, each after a space

@@ -5,8 +5,8 @@ ghost use Rattle.std.specs.Prelude.{IfOk, string_bytes, ◌<◌, ◌≡◌};
 
 use crate::checking::is_free;
 use crate::reading::Cells;
-use cell_texts::{colour_text, with_field};
 use heap_table::NoMemory;
+use line_texts::{colour_text, with_field};
 use std::alloc::Global;
 
 /// The text of any cells that nobody changes any more: a head with their number, a line for each in

@@ -8,9 +8,9 @@ use Rattle.std.proofs.lemmas.Bool.{and_parts, leb-true}
 use Rattle.std.proofs.lemmas.Option.{cond_some, same_Some}
 use Rattle.cell_words.specs.declared.colours.Colour.{Colour}
 use Rattle.cell_words.specs.declared.fields.Field.{Field}
-use Rattle.line_words.specs.Cut.{next_rest_of, next_word_of, rest_of, word_of}
-use Rattle.line_words.specs.Lines.{has_feed, is_end, is_missing, lines_left, lines_of}
-use Rattle.line_words.specs.Numbers.{decimal_of}
+use Rattle.line_texts.specs.Cut.{next_rest_of, next_word_of, rest_of, word_of}
+use Rattle.line_texts.specs.Lines.{has_feed, is_end, is_missing, lines_left, lines_of}
+use Rattle.line_texts.specs.Numbers.{decimal_of}
 use Rattle.image_files.specs.Answers.{Lists, ListsFile}
 use Rattle.image_files.specs.Contents.{Contents, contents_in, contents_of, ended, fault_at}
 use Rattle.image_files.specs.Contents.{in_order}
@@ -27,7 +27,7 @@ use Rattle.image_files.specs.declared.fault.ImageKind.TheVariants.{BadEnd, BadLi
 use Rattle.image_files.specs.declared.line.CellLine.{CellLine}
 use Rattle.image_files.specs.declared.line.Held.{Held}
 use Rattle.image_files.specs.declared.line.Held.TheVariants as held
-use Rattle.line_words.proofs.Rests.{IsCut, cut_lines, fed_lines, has_lines}
+use Rattle.line_texts.proofs.Rests.{IsCut, cut_lines, fed_lines, has_lines}
 use Rattle.image_files.proofs.Words.{cell_below, fields_below}
 
 -- a cut line behind some lines, and what it comes to

@@ -6,16 +6,16 @@ use Rattle.std.specs.Prelude.{IfSome, bytes_eq, codes, get_or}
 use Rattle.std.specs.Cmp.Lexicographic.{bytes_decides}
 use Rattle.std.proofs.lemmas.Bool.{cases_lt, eqb-true, le-ltb, lt-ltb, ltb-true}
 use Rattle.std.proofs.lemmas.Option.{cond_some, same_Some}
-use Rattle.cell_texts.specs.Texts.{colour_text, field_text}
-use Rattle.cell_texts.proofs.Decimals.{decimal-decimal_of, decimal_of-decimal}
+use Rattle.line_texts.specs.CellTexts.{colour_text, field_text}
+use Rattle.line_texts.proofs.Decimals.{decimal-decimal_of, decimal_of-decimal}
 use Rattle.cell_words.specs.Field.{IsValidField}
 use Rattle.cell_words.specs.declared.colours.Colour.{Colour}
 use Rattle.cell_words.specs.declared.colours.Colour.TheVariants as colour
 use Rattle.cell_words.specs.declared.fields.Field.{Field}
 use Rattle.cell_words.specs.declared.fields.Field.TheVariants as field
 use Rattle.core_machine.specs.InRange.{NamesBelow}
-use Rattle.line_words.specs.Cut.{next_rest_of, next_word_of}
-use Rattle.line_words.specs.Numbers.{decimal_of}
+use Rattle.line_texts.specs.Cut.{next_rest_of, next_word_of}
+use Rattle.line_texts.specs.Numbers.{decimal_of}
 use Rattle.image_files.specs.Line.{below, colour_in, field_in, fields_in, kept, name_in}
 use Rattle.image_files.specs.Line.{null_in, number_in, with_field}
 

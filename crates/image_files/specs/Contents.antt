@@ -6,7 +6,7 @@
 -- Source: this project's own.
 use Rattle.std.specs.Prelude.{ℕ, Bool, true, false, ◌+◌, List, [], ◌∷◌, ◌++◌, length, nat_le}
 use Rattle.std.specs.Prelude.{Option, Some, None, Result, Ok, Err, if◌then◌else◌}
-use Rattle.line_words.specs.Lines.{has_feed, is_end, lines_of}
+use Rattle.line_texts.specs.Lines.{has_feed, is_end, lines_of}
 use Rattle.image_files.specs.Line.{head_of, line_of}
 use Rattle.image_files.specs.declared.fault.ImageFault.{ImageFault}
 use Rattle.image_files.specs.declared.fault.ImageKind.{ImageKind}

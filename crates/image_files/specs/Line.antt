@@ -10,9 +10,9 @@ use Rattle.cell_words.specs.declared.colours.Colour.{Colour}
 use Rattle.cell_words.specs.declared.colours.Colour.TheVariants as colour
 use Rattle.cell_words.specs.declared.fields.Field.{Field}
 use Rattle.cell_words.specs.declared.fields.Field.TheVariants as field
-use Rattle.line_words.specs.Cut.{next_rest_of, next_word_of, rest_of, word_of}
-use Rattle.line_words.specs.Lines.{is_missing}
-use Rattle.line_words.specs.Numbers.{decimal_of}
+use Rattle.line_texts.specs.Cut.{next_rest_of, next_word_of, rest_of, word_of}
+use Rattle.line_texts.specs.Lines.{is_missing}
+use Rattle.line_texts.specs.Numbers.{decimal_of}
 use Rattle.image_files.specs.declared.fault.ImageKind.{ImageKind}
 use Rattle.image_files.specs.declared.fault.ImageKind.TheVariants.{BadEnd, BadLine}
 use Rattle.image_files.specs.declared.line.CellLine.{CellLine}

@@ -1,13 +1,12 @@
 //! One line of a heap file.
 ghost use Rattle.image_files.specs.Line.{below, cell_in, colour_in, field_in, fields_in, head_of};
 ghost use Rattle.image_files.specs.Line.{kept, line_of, sized};
-ghost use Rattle.line_words.specs.Lines.{is_missing};
+ghost use Rattle.line_texts.specs.Lines.{is_missing};
 ghost use Rattle.std.specs.Prelude.{Some, ◌≡◌};
 
 use crate::fault::ImageKind;
-use cell_texts::{read_colour, read_field};
 use cell_words::{Colour, Field};
-use line_words::{first_word, is_missing, next_word, read_decimal};
+use line_texts::{first_word, is_missing, next_word, read_colour, read_decimal, read_field};
 
 /// A cell in use, as its line has it.
 #[derive(Clone, Copy)]

@@ -4,14 +4,14 @@ ghost use Rattle.image_files.specs.Answers.{IsSafe};
 ghost use Rattle.image_files.specs.Contents.{contents_of, ended, lines_from, turn_of};
 ghost use Rattle.image_files.specs.File.{IsFile};
 ghost use Rattle.image_files.specs.declared.fault.ImageError.TheVariants as error;
-ghost use Rattle.line_words.specs.Lines.{is_end, lines_left, lines_of};
+ghost use Rattle.line_texts.specs.Lines.{is_end, lines_left, lines_of};
 ghost use Rattle.std.specs.Prelude.{IfOk, [], ◌≡◌, ◌≤◌, ◌<◌};
 
 use crate::fault::{ImageError, ImageFault, ImageKind, kind_of};
 use crate::file::ImageFile;
 use crate::line::{Held, read_head, read_line};
 use heap_census::{Census, Checked, check_cells};
-use line_words::{cut_line, is_end};
+use line_texts::{cut_line, is_end};
 use std::alloc::Global;
 
 /// The census of the heap of which the bytes are the file, or the first line by which they are

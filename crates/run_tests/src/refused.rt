@@ -4,6 +4,7 @@ use cmd_text::ScriptKind;
 use core_replay::ScheduleKind;
 use doc_model::NoMemory;
 use doc_run::run;
+use dump_text::LoadKind;
 use image_files::ImageKind;
 use outside::{MemShelf, OpenGate, SureSink};
 use script_files::{Fault, fault_text};
@@ -11,7 +12,6 @@ use std::alloc::Global;
 use std::sync::Wait;
 use std::test::Fail;
 use std::thread::Threads;
-use version_dump::LoadKind;
 
 /// How a run of so many files without lines ends, and after how many calls of the shelf.
 fn files_opened<R: Threads + Wait + Sync>(

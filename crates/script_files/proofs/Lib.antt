@@ -1,3 +1,7 @@
+pub mod LineCases
+pub mod Lines
+pub mod Worked
+pub mod MailTurns
 pub mod Sorting
 mod Sessions
 pub mod Files

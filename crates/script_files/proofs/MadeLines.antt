@@ -25,8 +25,8 @@ use Rattle.std.proofs.lemmas.List.Splits.{slice_split_at, slice_split_none}
 use Rattle.std.proofs.lemmas.List.Sums.{AllPass-from_list_all, list_all-from_AllPass}
 use Rattle.std.proofs.lemmas.List.Sums.{position_or_len_is}
 use Rattle.doc_tree.specs.Words.{is_name, is_name_byte, is_path, path_of, path_with, pieces}
-use Rattle.line_words.specs.Cut.{is_space, word_of, rest_of}
-use Rattle.line_words.specs.Line.{counts, is_plain_byte}
+use Rattle.line_texts.specs.Cut.{is_space, word_of, rest_of}
+use Rattle.line_texts.specs.Line.{counts, is_plain_byte}
 use Rattle.doc_model.specs.declared.command.Command.{Command}
 use Rattle.doc_model.specs.declared.command.Command.TheVariants as commands
 use Rattle.cmd_text.specs.Line.{and_then, arguments_in, bare_reading_of, command_of}
@@ -37,11 +37,11 @@ use Rattle.cmd_text.specs.Script.{commands_from, with_line}
 use Rattle.cmd_text.specs.Whole.{script_of}
 use Rattle.cmd_text.specs.declared.form.Form.TheVariants.{Plain}
 use Rattle.cmd_text.proofs.Versions.{first_is_whole}
-use Rattle.line_words.specs.Lines.{lines_of}
-use Rattle.script_generator.specs.Draws.{drawn_at, opening_of, state_after}
-use Rattle.script_generator.specs.Generated.{copy_text_of, generated_of}
-use Rattle.script_generator.specs.Generated.{line_text_of, lines_from, path_text_of}
-use Rattle.script_generator.proofs.LineCases.{line_cases}
+use Rattle.line_texts.specs.Lines.{lines_of}
+use Rattle.script_files.specs.Draws.{drawn_at, opening_of, state_after}
+use Rattle.script_files.specs.Generated.{copy_text_of, generated_of}
+use Rattle.script_files.specs.Generated.{line_text_of, lines_from, path_text_of}
+use Rattle.script_files.proofs.LineCases.{line_cases}
 use Rattle.script_files.specs.Made.{texts_from}
 use Rattle.script_files.specs.InTurn.{in_front, with_first}
 use Rattle.script_files.specs.Scripts.{after_reading, script_in, scripts_from}

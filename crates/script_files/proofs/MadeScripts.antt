@@ -7,7 +7,7 @@ use Rattle.std.proofs.lemmas.List.{map-append}
 use Rattle.std.specs.Prelude.{Vec}
 use Rattle.std.specs.declared.alloc.Global.{Global}
 use Rattle.doc_model.specs.declared.command.Command.{Command}
-use Rattle.script_generator.specs.Generated.{generated_of}
+use Rattle.script_files.specs.Generated.{generated_of}
 use Rattle.script_files.proofs.Files.{first_decided, next_decided, none_decided}
 use Rattle.script_files.proofs.MadeLines.{made_scripts}
 use Rattle.script_files.specs.Files.{Agree}

@@ -17,8 +17,8 @@ use Rattle.script_files.specs.declared.fault.Fault.TheVariants.{TooLarge}
 use Rattle.script_files.specs.InTurn.{within_size}
 use Rattle.script_files.specs.Loaded.{IsDumpFile, Loads, LoadsFile, after_dump, contents_by}
 use Rattle.script_files.specs.Replayed.{after_schedule, steps_of, IsReading, Replays, ReplaysFile}
-use Rattle.version_dump.specs.Contents.{contents_of}
-use Rattle.version_dump.specs.declared.loader.Loaded.{Loaded}
+use Rattle.dump_text.specs.Contents.{contents_of}
+use Rattle.dump_text.specs.declared.loader.Loaded.{Loaded}
 use Rattle.core_replay.specs.Schedule.{schedule_of}
 use Rattle.core_replay.specs.ScheduleValue.{ScheduleValue}
 use Rattle.std.specs.declared.alloc.Global.{Global}

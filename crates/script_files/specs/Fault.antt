@@ -10,16 +10,16 @@ use Rattle.core_replay.specs.declared.fault.ScheduleKind.{ScheduleKind}
 use Rattle.core_replay.specs.declared.fault.ScheduleKind.TheVariants as schedule
 use Rattle.image_files.specs.declared.fault.ImageKind.{ImageKind}
 use Rattle.image_files.specs.declared.fault.ImageKind.TheVariants as image
-use Rattle.mail_text.specs.declared.fault.MailKind.{MailKind}
-use Rattle.mail_text.specs.declared.fault.MailKind.TheVariants as mail
+use Rattle.script_files.specs.declared.mail_fault.MailKind.{MailKind}
+use Rattle.script_files.specs.declared.mail_fault.MailKind.TheVariants as mail
 use Rattle.script_files.specs.Sorts.{Sort, OfWords, OfLine, OfReading, OfWriting, OfMemory, OfSize}
 use Rattle.script_files.specs.Sorts.{sort_of}
 use Rattle.script_files.specs.declared.fault.Fault.{Fault}
 use Rattle.script_files.specs.declared.fault.Fault.TheVariants.{Usage, Script, Schedule, Dump}
 use Rattle.script_files.specs.declared.fault.Fault.TheVariants.{Image, Mail, ReadFault}
 use Rattle.script_files.specs.declared.fault.Fault.TheVariants.{WriteFault, Memory, TooLarge}
-use Rattle.version_dump.specs.declared.fault.LoadKind.{LoadKind}
-use Rattle.version_dump.specs.declared.fault.LoadKind.TheVariants as load
+use Rattle.dump_text.specs.declared.fault.LoadKind.{LoadKind}
+use Rattle.dump_text.specs.declared.fault.LoadKind.TheVariants as load
 
 -- the status of a sort of faults
 abbrev pub status_by : Sort → ℕ

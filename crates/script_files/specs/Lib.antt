@@ -1,3 +1,8 @@
+pub mod Draws
+pub mod Generated
+pub mod MailAnswers
+pub mod MailLine
+pub mod MailScript
 pub mod Counted
 pub mod Fault
 pub mod Sorts

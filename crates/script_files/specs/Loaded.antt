@@ -4,11 +4,11 @@
 -- Source: this project's own.
 use Rattle.std.specs.Prelude.{◌≡◌, ℕ, ◌≤◌, List, length, Option, IfSome, Result, Ok, Err, IsErr}
 use Rattle.doc_tree.specs.Tree.{DocTree}
-use Rattle.version_dump.specs.Contents.{Contents, contents_of}
-use Rattle.version_dump.specs.Laws.{IsDump}
-use Rattle.version_dump.specs.Listing.{listed}
-use Rattle.version_dump.specs.declared.fault.LoadFault.{LoadFault}
-use Rattle.version_dump.specs.declared.loader.Loaded.{Loaded}
+use Rattle.dump_text.specs.Contents.{Contents, contents_of}
+use Rattle.dump_text.specs.Laws.{IsDump}
+use Rattle.dump_text.specs.Listing.{listed}
+use Rattle.dump_text.specs.declared.fault.LoadFault.{LoadFault}
+use Rattle.dump_text.specs.declared.loader.Loaded.{Loaded}
 use Rattle.script_files.specs.InTurn.{largest_file, within_size}
 use Rattle.script_files.specs.Sorts.{OfDumps, Refused, sort_of}
 use Rattle.script_files.specs.declared.fault.Fault.{Fault}

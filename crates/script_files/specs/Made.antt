@@ -5,7 +5,7 @@ use Rattle.std.specs.Prelude.{◌≡◌, ℕ, zero, suc, ◌+◌, List, [], ◌�
 use Rattle.std.specs.Prelude.{Err, Vec}
 use Rattle.std.specs.declared.alloc.Global.{Global}
 use Rattle.doc_model.specs.declared.command.Command.{Command}
-use Rattle.script_generator.specs.Generated.{generated_of}
+use Rattle.script_files.specs.Generated.{generated_of}
 use Rattle.doc_model.specs.Scripts.{lists_of}
 use Rattle.script_files.specs.Scripts.{scripts_from}
 use Rattle.script_files.specs.declared.fault.Fault.{Fault}

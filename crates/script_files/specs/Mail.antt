@@ -7,8 +7,8 @@
 use Rattle.std.specs.Prelude.{◌≡◌, ℕ, List, Option, Result, Ok, Err, Vec, map, nat_lt}
 use Rattle.std.specs.Prelude.{if◌then◌else◌}
 use Rattle.std.specs.declared.alloc.Global.{Global}
-use Rattle.mail_text.specs.Script.{script_of}
-use Rattle.mail_text.specs.declared.fault.MailFault.{MailFault}
+use Rattle.script_files.specs.MailScript.{script_of}
+use Rattle.script_files.specs.declared.mail_fault.MailFault.{MailFault}
 use Rattle.script_files.specs.Due.{IsDueBy}
 use Rattle.script_files.specs.InTurn.{AreListsWithin, Parse, StopsIn, counted, list_in}
 use Rattle.script_files.specs.InTurn.{lists_within}

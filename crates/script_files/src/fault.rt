@@ -4,16 +4,16 @@ ghost use Rattle.script_files.specs.Fault.{image_kind_text_of, kind_text_of, lin
 ghost use Rattle.script_files.specs.Fault.{load_kind_text_of, mail_kind_text_of};
 ghost use Rattle.script_files.specs.Fault.{schedule_kind_text_of, status_of};
 
+use crate::mail_fault::MailKind;
 use cmd_text::ScriptKind;
 use core_replay::ScheduleKind;
 use doc_model::NoMemory;
+use dump_text::LoadKind;
 use image_files::ImageKind;
-use mail_text::MailKind;
 use outside::OutFault;
 use std::alloc::Global;
 use std::fmt::{self, Display, Formatter, Write};
 use thiserror::Error;
-use version_dump::LoadKind;
 
 /// Why a run ended early. Files are numbered from 1. It shows itself as `fault_text` says.
 #[derive(Clone, Copy, Debug, PartialEq, Eq, Error)]

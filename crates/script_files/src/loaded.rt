@@ -9,9 +9,9 @@ ghost use Rattle.script_files.specs.Loaded.{Loads, LoadsFile};
 
 use crate::fault::Fault;
 use crate::in_turn::LARGEST_FILE;
+use dump_text::{LoadError, LoadFault, Loaded, load};
 use outside::{OutFault, READ_LIMIT, Shelf, read_file};
 use std::alloc::Global;
-use version_dump::{LoadError, LoadFault, Loaded, load};
 
 // The only file of a load.
 const FILE: u32 = 1;

@@ -7,12 +7,12 @@ ghost use Rattle.script_files.specs.Reading.{Decides, DecidesFrom};
 ghost use Rattle.doc_model.specs.Scripts.{lists_of};
 ghost use Rattle.script_files.specs.InTurn.{most_commands};
 ghost use Rattle.script_files.specs.Scripts.{script_in};
-ghost use Rattle.script_generator.specs.Generated.{generated_of};
+ghost use Rattle.script_files.specs.Generated.{generated_of};
 
 use crate::fault::Fault;
+use crate::generating::generated;
 use crate::scripts::script_in_bytes;
 use doc_model::Command;
-use script_generator::generated;
 use std::alloc::Global;
 
 // How many commands all scripts have at most.

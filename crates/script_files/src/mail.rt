@@ -14,7 +14,8 @@ ghost use Rattle.script_files.specs.Sorts.{OfMail};
 
 use crate::fault::Fault;
 use crate::in_turn::{Gathering, LARGEST_FILE, MOST_COMMANDS, gather};
-use mail_text::{MailError, MailFault, read_mail};
+use crate::mail_fault::{MailError, MailFault};
+use crate::mail_script::read_mail;
 use outside::{READ_LIMIT, Shelf};
 use std::alloc::Global;
 

@@ -1,8 +1,8 @@
 //! The dumps of small stores.
 use doc_tree::Path;
+use dump_text::{LoadError, load};
 use std::alloc::Global;
 use std::test::Fail;
-use version_dump::{LoadError, load};
 
 /// The dump of version 2 of a store after `put a x` and `put a/b y`.
 const SMALL: &str = "docs-dump 1 2\n. \"\"\na \"x\"\na/b \"y\"\nend 3\n";

@@ -1,5 +1,5 @@
 //! What no clause says: each call on its happy path.
-use line_words::*;
+use line_texts::*;
 
 #[test]
 fn a_line_falls_into_its_words(rt: HostRuntime) {

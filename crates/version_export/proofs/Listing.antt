@@ -7,9 +7,9 @@ use Rattle.std.specs.declared.cmp.Ordering.{Ordering}
 use Rattle.doc_tree.specs.Tree.{DocTree, IsAbove, IsRising, Kids, by_order, child, count, kid}
 use Rattle.doc_tree.specs.Tree.{names_of, no_kids}
 use Rattle.doc_tree.proofs.Rising.{less_turned}
-use Rattle.version_dump.specs.Dump.{dump_of, end_line, head_line, lines_below, path_text}
-use Rattle.version_dump.specs.Dump.{node_line}
-use Rattle.version_dump.proofs.Orders.{same_equal}
+use Rattle.dump_text.specs.Dump.{dump_of, end_line, head_line, lines_below, path_text}
+use Rattle.dump_text.specs.Dump.{node_line}
+use Rattle.dump_text.proofs.Orders.{same_equal}
 use Rattle.version_export.specs.Lines.{before_of, child_lines, line_of, lines_from, lines_of}
 use Rattle.version_export.specs.Lines.{path_behind, tree_lines, with_slash}
 

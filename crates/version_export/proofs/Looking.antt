@@ -17,7 +17,7 @@ use Rattle.trails.specs.Claims.{look_of}
 use Rattle.trails.specs.Marks.{Mark, looked, marks_from, marks_of, saw, tried}
 use Rattle.trails.specs.Marks.{wrote}
 use Rattle.trails.proofs.Marks.{marks_append}
-use Rattle.version_dump.proofs.Orders.{same_equal}
+use Rattle.dump_text.proofs.Orders.{same_equal}
 use Rattle.version_rule.specs.Pass.{Pass}
 use Rattle.version_store.specs.Lasts.{marks}
 use Rattle.held_places.proofs.Going.{calm_trail}

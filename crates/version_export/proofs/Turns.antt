@@ -14,7 +14,7 @@ use Rattle.doc_tree.proofs.Sizes.{child_height}
 use Rattle.minor_heap.specs.Nursery.{Nursery}
 use Rattle.minor_heap.specs.declared.fields.MinorRef.{MinorRef}
 use Rattle.mutator_seat.specs.Bound.{Bound, held_cells, takes}
-use Rattle.version_dump.specs.Dump.{dump_of, end_line, head_line}
+use Rattle.dump_text.specs.Dump.{dump_of, end_line, head_line}
 use Rattle.version_rule.specs.Pass.{Pass}
 use Rattle.version_store.specs.Calls.{Holds, StaysKnown}
 use Rattle.version_store.specs.Lasts.{LastsAcross, marks}

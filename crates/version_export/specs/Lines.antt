@@ -4,7 +4,7 @@
 use Rattle.std.specs.Prelude.{ℕ, List, [], ◌∷◌, ◌++◌, Option, Some, None}
 use Rattle.doc_tree.specs.Tree.{DocTree, Kids, no_kids, kid, child}
 use Rattle.quoted_text.specs.Quoted.{quoted_of}
-use Rattle.version_dump.specs.Dump.{fed}
+use Rattle.dump_text.specs.Dump.{fed}
 
 -- the line of a node with this path
 abbrev pub line_of : List ℕ → List ℕ → List ℕ

@@ -5,7 +5,7 @@ ghost use Rattle.client_trees.specs.Nodes.{IsTreeAt, tree_at};
 ghost use Rattle.doc_records.specs.Trees.{tree_of};
 ghost use Rattle.doc_tree.specs.Tree.{count, height};
 ghost use Rattle.mutator_seat.specs.Bound.{held_cells};
-ghost use Rattle.version_dump.specs.Dump.{dump_of};
+ghost use Rattle.dump_text.specs.Dump.{dump_of};
 ghost use Rattle.version_export.specs.Looks.{looks};
 ghost use Rattle.version_export.specs.Outcome.{Refuses};
 ghost use Rattle.version_export.specs.Still.{Stays};

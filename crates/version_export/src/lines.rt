@@ -1,6 +1,6 @@
 //! The lines of a dump, as bytes.
 ghost use Rattle.std.specs.Prelude.{◌≡◌, ◌++◌, IfOk, OnOk};
-ghost use Rattle.version_dump.specs.Dump.{end_line, head_line};
+ghost use Rattle.dump_text.specs.Dump.{end_line, head_line};
 ghost use Rattle.version_export.specs.Lines.{line_of, path_behind, with_slash};
 
 use doc_tree::{Name, NoMemory, Text};

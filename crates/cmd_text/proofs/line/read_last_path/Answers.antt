@@ -1,7 +1,7 @@
 use Rattle.std.proofs.Common.{◌≡◌, ℕ, true, List, [], ◌∷◌, length, Ok, refl, ap, sym, ◌∙◌, arith}
 use Rattle.std.specs.Prelude.{◌==◌}
 use Rattle.std.proofs.lemmas.Bool.{eqb-true}
-use Rattle.line_words.specs.Cut.{next_rest_of}
+use Rattle.line_texts.specs.Cut.{next_rest_of}
 use Rattle.cmd_text.specs.Line.{and_then, at_end, last_path_in, path_in}
 use Rattle.cmd_text.proofs.line.read_last_path.Goals as goal
 

@@ -2,8 +2,8 @@
 use Rattle.std.proofs.Common.{◌≡◌, ℕ, true, List, drop, sym, subst}
 use Rattle.std.specs.List.{list_all}
 use Rattle.doc_tree.specs.Words.{is_text_byte}
-use Rattle.line_words.specs.Line.{is_plain_byte}
-use Rattle.line_words.proofs.Cuts.{list_all-drop}
+use Rattle.line_texts.specs.Line.{is_plain_byte}
+use Rattle.line_texts.proofs.Cuts.{list_all-drop}
 use Rattle.cmd_text.proofs.Quoting.{plain_text}
 use Rattle.cmd_text.proofs.line.read_text.Goals as goal
 

@@ -1,5 +1,5 @@
 use Rattle.std.proofs.Common.{◌≡◌, length}
-use Rattle.line_words.specs.Lines.{lines_of}
+use Rattle.line_texts.specs.Lines.{lines_of}
 use Rattle.cmd_text.specs.Script.{first_script_of}
 use Rattle.cmd_text.proofs.Lines.{with_front, left_after}
 use Rattle.cmd_text.proofs.script.read_first_script.Given as goal

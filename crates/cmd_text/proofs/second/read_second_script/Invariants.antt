@@ -1,8 +1,8 @@
 use Rattle.std.proofs.Common.{◌≡◌, ◌+◌, ◌≤◌, length}
 use Rattle.cmd_text.specs.Second.{second_from, second_script_of}
 use Rattle.cmd_text.proofs.Lines.{with_front}
-use Rattle.line_words.proofs.Rests.{left}
-use Rattle.line_words.specs.Lines.{lines_left}
+use Rattle.line_texts.proofs.Rests.{left}
+use Rattle.line_texts.specs.Lines.{lines_left}
 use Rattle.cmd_text.proofs.second.read_second_script.Given as goal
 
 abbrev pub invariant-loop-rest : goal.invariant-loop-rest

@@ -1,6 +1,6 @@
 -- What follows the number is read from where the number ends.
 use Rattle.std.proofs.Common.{◌∙◌, ℕ, ap, sym, Result}
-use Rattle.line_words.specs.Cut.{next_rest_of}
+use Rattle.line_texts.specs.Cut.{next_rest_of}
 use Rattle.core_replay.specs.Numbers.{and_then}
 use Rattle.core_replay.specs.Steps.{over_in}
 use Rattle.core_replay.specs.declared.fault.ScheduleKind.{ScheduleKind}

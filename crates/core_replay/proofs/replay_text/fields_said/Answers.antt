@@ -1,5 +1,5 @@
 use Rattle.std.proofs.Common.{◌∙◌, ◌++◌, ap, codes, string_bytes}
-use Rattle.cell_texts.specs.Texts.{field_text}
+use Rattle.line_texts.specs.CellTexts.{field_text}
 use Rattle.core_replay.proofs.Fields.{all_fields, fields_more}
 use Rattle.core_replay.proofs.replay_text.fields_said.Goals as goal
 

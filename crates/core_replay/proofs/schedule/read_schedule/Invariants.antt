@@ -1,6 +1,6 @@
 use Rattle.std.proofs.Common.{◌≡◌, ◌≤◌, length, IsTrue, Some}
 use Rattle.core_replay.specs.Schedule.{schedule_of}
-use Rattle.line_words.specs.Lines.{lines_of}
+use Rattle.line_texts.specs.Lines.{lines_of}
 use Rattle.core_replay.specs.ScheduleValue.{are_sizes}
 use Rattle.core_replay.specs.declared.start.Sizes.{Sizes}
 use Rattle.core_replay.proofs.Lines.{with_front, left_after}

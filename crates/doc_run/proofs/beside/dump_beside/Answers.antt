@@ -1,5 +1,5 @@
 use Rattle.std.proofs.Common.{◌<◌, Some, arith, length}
-use Rattle.run_words.specs.Requests.{Dump, names_by}
+use Rattle.command_line.specs.Requests.{Dump, names_by}
 use Rattle.script_files.specs.declared.fault.Fault.TheVariants.{TooLarge}
 use Rattle.doc_run.proofs.Deciding.{dump_decided, dump_refuses, refused_by}
 use Rattle.doc_run.proofs.Few.{many_scripts}

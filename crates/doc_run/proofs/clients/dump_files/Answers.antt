@@ -3,7 +3,7 @@ use Rattle.std.proofs.lemmas.List.{length-map}
 use Rattle.std.specs.Prelude.{Vec}
 use Rattle.std.specs.declared.alloc.Global.{Global}
 use Rattle.doc_model.specs.declared.command.Command.{Command}
-use Rattle.run_words.specs.Requests.{Dump, names_by}
+use Rattle.command_line.specs.Requests.{Dump, names_by}
 use Rattle.script_files.specs.Files.{files_read}
 use Rattle.script_files.specs.Formed.{AreRead}
 use Rattle.script_files.specs.Reading.{lists_of}

@@ -1,6 +1,6 @@
 use Rattle.std.proofs.Common.{Bor, List, ℕ, Ok, Err, Some, ap, map, subst}
 use Rattle.std.proofs.lemmas.List.{length-map}
-use Rattle.run_words.specs.Requests.{Run, run_asked_by}
+use Rattle.command_line.specs.Requests.{Run, run_asked_by}
 use Rattle.script_files.specs.Files.{files_read}
 use Rattle.script_files.specs.Formed.{AreRead}
 use Rattle.script_files.specs.Reading.{lists_of}

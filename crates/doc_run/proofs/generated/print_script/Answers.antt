@@ -1,6 +1,6 @@
 use Rattle.doc_run.proofs.Deciding.{made_printed, made_wants, refused_by}
 use Rattle.std.proofs.Common.{Some}
-use Rattle.run_words.specs.Requests.{Gen}
+use Rattle.command_line.specs.Requests.{Gen}
 use Rattle.script_files.specs.declared.fault.Fault.TheVariants.{Memory}
 use Rattle.doc_run.proofs.generated.print_script.Goals as goal
 

@@ -1,5 +1,5 @@
 use Rattle.std.proofs.Common.{Some}
-use Rattle.run_words.specs.Requests.{Gen}
+use Rattle.command_line.specs.Requests.{Gen}
 use Rattle.script_files.specs.declared.fault.Fault.TheVariants.{Memory}
 use Rattle.doc_run.proofs.Deciding.{made_ran, made_wants, refused_by}
 use Rattle.doc_run.proofs.generated.run_scripts.Goals as goal

@@ -2,7 +2,7 @@ use Rattle.std.proofs.Common.{Bor, List, ℕ, Ok, Err, Some, ap, map, subst}
 use Rattle.std.proofs.lemmas.List.{length-map}
 use Rattle.std.specs.Prelude.{Vec}
 use Rattle.std.specs.declared.alloc.Global.{Global}
-use Rattle.run_words.specs.Requests.{Mail, mail_asked_by}
+use Rattle.command_line.specs.Requests.{Mail, mail_asked_by}
 use Rattle.script_files.specs.Mail.{IsMail, StopsAtMail, senders_read, values_of}
 use Rattle.script_files.specs.Sorts.{OfMail, Refused, sort_of}
 use Rattle.doc_run.specs.Mailed.{FinishesMail}

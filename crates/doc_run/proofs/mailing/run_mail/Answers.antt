@@ -1,5 +1,5 @@
 use Rattle.std.proofs.Common.{Some}
-use Rattle.run_words.specs.Requests.{Mail, mail_asked_by}
+use Rattle.command_line.specs.Requests.{Mail, mail_asked_by}
 use Rattle.doc_run.proofs.Deciding.{mail_refuses, refused_by}
 use Rattle.doc_run.proofs.Fetching.{renamed}
 use Rattle.doc_run.proofs.mailing.run_mail.Goals as goal

@@ -1,6 +1,6 @@
 use Rattle.std.proofs.Common.{Err, None, refl}
-use Rattle.run_words.specs.Requests.{request_of}
-use Rattle.run_words.specs.declared.request.Request.TheVariants as code
+use Rattle.command_line.specs.Requests.{request_of}
+use Rattle.command_line.specs.declared.request.Request.TheVariants as code
 use Rattle.script_files.specs.declared.fault.Fault.TheVariants.{Memory, Usage}
 use Rattle.doc_run.proofs.ByRequest.{decided_as, known, memory_refuses, none_asked}
 use Rattle.doc_run.proofs.ByRequest.{usage_refuses}

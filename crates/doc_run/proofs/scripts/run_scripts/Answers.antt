@@ -1,5 +1,5 @@
 use Rattle.std.proofs.Common.{None, Some}
-use Rattle.run_words.specs.Requests.{run_asked_by}
+use Rattle.command_line.specs.Requests.{run_asked_by}
 use Rattle.script_files.specs.declared.fault.Fault.TheVariants.{Memory}
 use Rattle.doc_run.specs.Request.{asked_for}
 use Rattle.doc_run.proofs.Deciding.{refused_by, scripts_answer, scripts_refuse}

@@ -1,4 +1,4 @@
-use Rattle.run_words.specs.Requests.{request_of}
+use Rattle.command_line.specs.Requests.{request_of}
 use Rattle.doc_run.proofs.Calling.{calls, failures}
 use Rattle.doc_run.proofs.Ending.{promised}
 use Rattle.doc_run.proofs.whole_run.run.Goals as goal

@@ -1,5 +1,5 @@
 use Rattle.std.proofs.Common.{◌++◌, ◌∙◌, ap, string_bytes, codes}
-use Rattle.cell_texts.specs.Texts.{colour_text, field_text}
+use Rattle.line_texts.specs.CellTexts.{colour_text, field_text}
 use Rattle.heap_census.proofs.Lines.{line_first, line_more, line_done}
 use Rattle.heap_census.proofs.writing.line_of.Goals as goal
 

@@ -1,7 +1,7 @@
 use Rattle.std.proofs.Common.{◌≡◌, ◌+◌, length, false, Err, sym, subst, arith}
 use Rattle.image_files.specs.Answers.{Lists}
 use Rattle.image_files.specs.Contents.{ended}
-use Rattle.line_words.specs.Lines.{is_end, lines_left}
+use Rattle.line_texts.specs.Lines.{is_end, lines_left}
 use Rattle.image_files.specs.declared.fault.ImageError.{ImageError}
 use Rattle.image_files.proofs.Turns.{follows_end}
 use Rattle.image_files.proofs.reader.ended.Goals as goal

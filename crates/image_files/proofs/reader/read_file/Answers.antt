@@ -1,5 +1,5 @@
 use Rattle.std.proofs.Common.{[], sym, ◌∙◌}
-use Rattle.line_words.specs.Lines.{lines_of}
+use Rattle.line_texts.specs.Lines.{lines_of}
 use Rattle.image_files.specs.Contents.{contents_of, lines_from}
 use Rattle.image_files.proofs.Turns.{file_read, head_read}
 use Rattle.image_files.proofs.reader.read_file.Goals as goal

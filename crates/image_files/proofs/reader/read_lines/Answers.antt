@@ -1,5 +1,5 @@
 use Rattle.std.proofs.Common.{◌≡◌, ◌≤◌, ◌^◌, ◌+◌, ◌∙◌, [], length, Ok, Err, ap, sym, subst, arith}
-use Rattle.line_words.specs.Lines.{lines_left, lines_of}
+use Rattle.line_texts.specs.Lines.{lines_left, lines_of}
 use Rattle.image_files.specs.Answers.{Lists}
 use Rattle.image_files.specs.Contents.{lines_from}
 use Rattle.image_files.specs.declared.fault.ImageError.{ImageError}

@@ -1,8 +1,8 @@
 use Rattle.std.proofs.Common.{◌≡◌, []}
-use Rattle.line_words.specs.Lines.{lines_left, lines_of}
+use Rattle.line_texts.specs.Lines.{lines_left, lines_of}
 use Rattle.image_files.specs.Contents.{lines_from}
 use Rattle.image_files.specs.File.{IsFile}
-use Rattle.line_words.proofs.Rests.{left}
+use Rattle.line_texts.proofs.Rests.{left}
 use Rattle.image_files.proofs.reader.read_lines.Given as goal
 
 abbrev pub invariant-loop-rest : goal.invariant-loop-rest

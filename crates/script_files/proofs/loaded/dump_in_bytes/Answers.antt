@@ -1,12 +1,12 @@
 use Rattle.std.proofs.Common.{◌≡◌, ◌≤◌, ℕ, List, Err, length, refl, subst, arith}
 use Rattle.std.proofs.lemmas.Bool.{le-ltb}
 use Rattle.doc_tree.specs.Tree.{DocTree}
-use Rattle.version_dump.specs.Answers.{IsLoaded, Reads}
-use Rattle.version_dump.specs.Contents.{contents_of}
-use Rattle.version_dump.specs.Laws.{IsDump}
-use Rattle.version_dump.specs.declared.fault.LoadError.{LoadError}
-use Rattle.version_dump.specs.declared.fault.LoadError.TheVariants as load
-use Rattle.version_dump.specs.declared.fault.LoadFault.{LoadFault}
+use Rattle.dump_text.specs.Answers.{IsLoaded, Reads}
+use Rattle.dump_text.specs.Contents.{contents_of}
+use Rattle.dump_text.specs.Laws.{IsDump}
+use Rattle.dump_text.specs.declared.fault.LoadError.{LoadError}
+use Rattle.dump_text.specs.declared.fault.LoadError.TheVariants as load
+use Rattle.dump_text.specs.declared.fault.LoadFault.{LoadFault}
 use Rattle.script_files.specs.Loaded.{IsDumpFile, dump_in}
 use Rattle.script_files.specs.declared.fault.Fault.TheVariants.{Dump}
 use Rattle.script_files.proofs.loaded.dump_in_bytes.Goals as goal

@@ -1,0 +1,5 @@
+pub mod CellTexts
+pub mod Cut
+pub mod Line
+pub mod Lines
+pub mod Numbers

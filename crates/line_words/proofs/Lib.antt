@@ -1,4 +1,0 @@
-pub mod Cuts
-pub mod Digits
-pub mod Feeds
-pub mod Rests

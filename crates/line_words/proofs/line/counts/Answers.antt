@@ -1,5 +1,0 @@
-use Rattle.std.proofs.Common.{rules}
-use Rattle.line_words.proofs.line.counts.Goals as goal
-
-pub returns : goal.returns
-returns c = search rules

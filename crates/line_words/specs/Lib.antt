@@ -1,4 +1,0 @@
-pub mod Cut
-pub mod Line
-pub mod Lines
-pub mod Numbers

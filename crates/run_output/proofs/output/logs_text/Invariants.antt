@@ -1,9 +1,0 @@
-use Rattle.std.proofs.Common.{◌≡◌, ◌++◌, drop}
-use Rattle.run_output.specs.Output.{logs_text_of}
-use Rattle.run_output.proofs.output.logs_text.Given as goal
-
--- the text of the logs so far, and of those that are left
-abbrev pub invariant-loop-log : goal.invariant-loop-log
-invariant-loop-log l =
-    l.text.items ++ logs_text_of l.forms (drop l.log-index l.logs)
-    ≡ logs_text_of l.fn.forms l.logs

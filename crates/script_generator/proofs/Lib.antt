@@ -1,3 +1,0 @@
-pub mod LineCases
-pub mod Lines
-pub mod Worked

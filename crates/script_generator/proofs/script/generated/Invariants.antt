@@ -1,9 +1,0 @@
-use Rattle.std.proofs.Common.{◌≡◌, ◌-◌, ◌++◌}
-use Rattle.script_generator.specs.Generated.{generated_of, lines_from}
-use Rattle.script_generator.proofs.script.generated.Given as goal
-
--- the lines so far, and those that are left
-abbrev pub invariant-loop-done : goal.invariant-loop-done
-invariant-loop-done l =
-    l.text.items ++ lines_from l.client l.draws.state (l.commands - l._done)
-    ≡ generated_of l.start l.client l.commands

@@ -1,5 +1,0 @@
-use Rattle.shared_counter.proofs.Openings.{opens}
-use Rattle.shared_counter.proofs.opening.open_counter.Goals as goal
-
-pub open-requires-clause-rule : goal.open-requires-clause-rule
-open-requires-clause-rule g c = opens c.args.cells c.args.threads

@@ -1,8 +1,0 @@
-use Rattle.std.proofs.Common.{◌≡◌, ◌≤◌}
-use Rattle.cell_making.specs.Resting.{Rests}
-use Rattle.shared_log.proofs.appending.work.Given as goal
-
-abbrev pub invariant-loop-tried : goal.invariant-loop-tried
-invariant-loop-tried g l =
-    Rests 8 l.m × (l.m.heap ≡ l.heap) × (l.m.seat.me.number ≡ l.writer)
-    × (l.m.seat.me.pass ≡ record { count = l.count }) × (l.count ≤ l._tried)

@@ -1,5 +1,0 @@
-use Rattle.shared_log.proofs.Openings.{opens}
-use Rattle.shared_log.proofs.opening.open_log.Goals as goal
-
-pub open-requires-clause-rule : goal.open-requires-clause-rule
-open-requires-clause-rule g c = opens c.args.cells c.args.threads
