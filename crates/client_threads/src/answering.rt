@@ -9,9 +9,9 @@ ghost use Rattle.client_threads.specs.Going.{Answers, Waits, Went, answered};
 ghost use Rattle.mutator_seat.specs.Bound.{Bound};
 ghost use Rattle.version_rule.specs.Pass.{Pass};
 
+use client_history::Documents;
 use client_run::Session;
 use doc_model::Command;
-use client_history::Documents;
 use free_cells::Hints;
 use mutator_seat::Mutator;
 use outside::Gate;

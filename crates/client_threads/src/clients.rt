@@ -1,6 +1,6 @@
 //! A client between its setup and its end: what its thread takes with it, and gives back.
-use client_run::Session;
 use client_history::Documents;
+use client_run::Session;
 use free_cells::HintPass;
 use mutator_seat::MutSeat;
 

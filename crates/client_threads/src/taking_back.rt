@@ -10,9 +10,9 @@ ghost use Rattle.heap_table.specs.Seats.{IsSeatOf};
 
 use crate::clients::Client;
 use cell_heap::ColSeat;
+use client_history::Documents;
 use client_run::Limits;
 use doc_model::{Command, Log};
-use client_history::Documents;
 use heap_table::CellHeap;
 
 /// Joins the seats of all clients, and puts the logs into the list, in which there is room for

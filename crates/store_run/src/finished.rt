@@ -1,6 +1,6 @@
 use cell_heap::{Image, Passes};
-use doc_model::{Log, Totals};
 use client_history::Documents;
+use doc_model::{Log, Totals};
 
 /// The outcome of a run: what each client was answered, the heap at its close, what all seats had
 /// then, and the totals.
