@@ -83,7 +83,7 @@ static int does_form(session *s, reader *r) {
 }
 
 static void usage(void) {
-    fprintf(stderr, "usage: lisp [--cells N] [--always] [FILE [NUMBER ..]]\n");
+    fprintf(stderr, "usage: lisp [--cells N] [--always] [--cycles FILE] [FILE [NUMBER ..]]\n");
     exit(2);
 }
 
@@ -136,9 +136,14 @@ static void *run(void *given) {
 
 int main(int argc, char **argv) {
     session s = { .file = stdin, .is_shown = 1, .cells = 1000000 };
+    FILE *cycle_lines = NULL;
     int always = 0;
     for (argv++; *argv && strncmp(*argv, "--", 2) == 0; argv++) {
         if (strcmp(*argv, "--always") == 0) always = 1;
+        else if (strcmp(*argv, "--cycles") == 0 && argv[1]) {
+            cycle_lines = fopen(*++argv, "w");
+            if (!cycle_lines) { perror("lisp"); return 2; }
+        }
         else if (strcmp(*argv, "--cells") == 0 && argv[1]) s.cells = (long)argument(*++argv);
         else usage();
     }
@@ -153,12 +158,13 @@ int main(int argc, char **argv) {
     s.numbers = argv;
     s.t = first_interpreter();
     if (s.cells < 1 || s.cells > 4194304) usage();
-    if (!mem_open((uint32_t)s.cells, always) || !start_thread(s.t, run, &s)) {
+    if (!mem_open((uint32_t)s.cells, always, cycle_lines) || !start_thread(s.t, run, &s)) {
         fprintf(stderr, "lisp: out of memory\n");
         return 2;
     }
     pthread_join(s.t->thread, NULL);
     mem_close();
+    if (cycle_lines) fclose(cycle_lines);
     if (s.file != stdin) fclose(s.file);
     return s.status;
 }

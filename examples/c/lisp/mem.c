@@ -29,6 +29,7 @@ static heap_col col = HEAP_ZERO;
 static struct mem seats[MEM_SEATS];
 static uint32_t all_cells;
 static int is_always;
+static FILE *told; /* a line for each cycle, if it is there */
 static pthread_t collector;
 static pthread_mutex_t handing = PTHREAD_MUTEX_INITIALIZER;
 static atomic_int over, wanted;
@@ -86,7 +87,9 @@ static void look(void) {
     heap_stats stats;
     MUST(heap_look(&col, &stats));
     atomic_store(&cycles, stats.cycles);
-    atomic_store(&used, (long long)atomic_load(&made) - (long long)stats.freed);
+    unsigned long long now = atomic_load(&made);
+    atomic_store(&used, (long long)now - (long long)stats.freed);
+    if (told) fprintf(told, "%llu %llu\n", now, (unsigned long long)stats.freed);
 }
 
 static void *collect(void *unused) {
@@ -109,9 +112,11 @@ static void *collect(void *unused) {
     return unused;
 }
 
-int mem_open(uint32_t cells, int always) {
+int mem_open(uint32_t cells, int always, FILE *cycle_lines) {
     all_cells = cells;
     is_always = always;
+    told = cycle_lines;
+    if (told) fprintf(told, "%u\n", (unsigned)cells);
     if (heap_open(cells, MEM_SEATS, STACK, HEAP_FIELDS, &col) != HEAP_OK) return 0;
     for (size_t i = 0; i < MEM_SEATS; i++)
         if (heap_seat(&col, MEM_ROOM, &seats[i].spot.m) != HEAP_OK) return 0;

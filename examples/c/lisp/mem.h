@@ -12,6 +12,7 @@
 #define MEM_H
 #include <stddef.h>
 #include <stdint.h>
+#include <stdio.h>
 
 enum { MEM_SEATS = 64, MEM_ROOM = 131072, MEM_TEXT = 252 };
 
@@ -46,8 +47,10 @@ static inline unsigned kind_of(uint64_t word) { return (unsigned)(word % KINDS);
 static inline uint64_t info_of(uint64_t word) { return word / KINDS; }
 
 /* The heap, and the collector's thread: cells in all, and whether one cycle follows another even if
- * nobody wants cells. 0 if there is no memory. mem_close: all seats are out. */
-int mem_open(uint32_t cells, int always);
+ * nobody wants cells. A file that is given gets the number of cells, and for each cycle a line: how
+ * many were made, and how many freed, until its end. 0 if there is no memory. mem_close: all seats
+ * are out. */
+int mem_open(uint32_t cells, int always, FILE *cycle_lines);
 void mem_close(void);
 uint64_t mem_cycles(void); /* that ended */
 int64_t mem_used(void);    /* how many cells were not free when the last one ended */

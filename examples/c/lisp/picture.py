@@ -1,0 +1,45 @@
+#!/usr/bin/env python3
+"""Draws how many cells of a heap a run of the Lisp had in use, as an SVG: a bar for each cycle.
+
+    out/gcc/lisp --cycles LINES --cells 60000 scripts/garbage.lisp && picture.py LINES > PICTURE.svg
+
+LINES has the number of cells, and for each cycle how many were made and how many were freed until
+its end. A bar is what was in use then: what lives, and what was made while the cycle ran. At most
+the first 120 cycles are drawn.
+"""
+import os
+import sys
+
+sys.path.insert(0, os.path.join(os.path.dirname(os.path.abspath(__file__)), "../../../pictures"))
+from drawing import DARK, LIGHT, rect, style, svg, text
+
+WIDE, HIGH, LEFT, TOP, MOST = 900, 220, 70, 50, 120
+
+
+def main():
+    if len(sys.argv) != 2:
+        sys.exit(__doc__)
+    with open(sys.argv[1], encoding="ascii") as it:
+        cells, *cycles = [list(map(int, line.split())) for line in it]
+    cells, cycles = cells[0], cycles[:MOST]
+    if not cycles:
+        sys.exit("no cycle ended")
+    used = [made - freed for made, freed in cycles]
+    step, floor = WIDE / len(used), TOP + HIGH
+    bars = [rect(LEFT + k * step, floor - HIGH * cells_used / cells, step * .7,
+                 HIGH * cells_used / cells, "use", f"cycle {k + 1}: {cells_used:,} cells")
+            for k, cells_used in enumerate(used)]
+    parts = [text(LEFT, 20, "Cells in use at the end of each cycle", "title ink"),
+             text(LEFT, 38, f"{len(used)} cycles, {cycles[-1][0]:,} cells made; most in use "
+                  f"{max(used):,} of {cells:,}", "faint"),
+             f'<path d="M{LEFT} {TOP}h{WIDE}M{LEFT} {floor}h{WIDE}" class="edge"/>', *bars,
+             text(8, TOP + 4, f"{cells:,}", "faint"), text(8, floor + 4, "0", "faint")]
+    rules = style({}, {}, f".edge {{ stroke: {LIGHT['faint']}; stroke-width: .6; }} "
+                  ".use { fill: #0b6bcb; } "
+                  "@media (prefers-color-scheme: dark) "
+                  f"{{ .edge {{ stroke: {DARK['faint']}; }} .use {{ fill: #6cb6ff; }} }}")
+    sys.stdout.write(svg(LEFT + WIDE + 20, floor + 20, "Cells in use", rules, parts))
+
+
+if __name__ == "__main__":
+    main()
