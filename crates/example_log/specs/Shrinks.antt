@@ -5,7 +5,8 @@ use Rattle.std.specs.Prelude.{ℕ, ◌≡◌, List, [], ◌∷◌, length, Some}
 use Rattle.std.proofs.Common.{◌∙◌, arith, sym}
 use Rattle.heap_rule.specs.Boxes.{Map, Payload, Smaller}
 use Rattle.heap_rule.specs.Lore.{Named}
-use Rattle.example_log.specs.Logging.{Chain, HasNumber, KeepsLog}
+use Rattle.heap_rule.specs.Numbered.{HasNumber}
+use Rattle.example_log.specs.Logging.{Chain, KeepsLog}
 use Rattle.example_log.specs.declared.log.Appended.{Appended}
 
 -- a chain begins with a box that has a number
