@@ -2,9 +2,7 @@ pub mod AtClose
 pub mod Going
 pub mod Leaving
 pub mod OneMore
-pub mod Places
+pub mod Openings
 pub mod Rooms
-pub mod Serving
-pub mod Splitting
 pub mod TakingBack
 pub mod Waiting

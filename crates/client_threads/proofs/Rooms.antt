@@ -2,17 +2,17 @@
 --
 -- The mutator with less room is the same one except for that. So all that names no room is handed
 -- over as it is, and the bounds grow.
-use Rattle.std.proofs.Common.{◌≤◌, ◌+◌, ℕ, List, refl, subst, arith}
+use Rattle.std.proofs.Common.{◌≤◌, ◌+◌, ℕ, refl, arith}
 use Rattle.client_heap.specs.Sound.{IsSound}
 use Rattle.client_run.specs.Own.{IsBegun, IsNewSession, MayAnswer, client_state}
 use Rattle.client_session.specs.declared.journal.Limits.{Limits}
 use Rattle.client_run.specs.declared.session.Session.{Session}
 use Rattle.client_session.specs.Turns.{InStep}
 use Rattle.client_history.specs.State.{IsReady as HasPlaces}
-use Rattle.doc_model.specs.declared.command.Command.{Command}
 use Rattle.free_cells.specs.declared.queue.FreeQueue.{FreeQueue}
 use Rattle.heap_table.specs.Seats.{HeapId}
 use Rattle.mutator_seat.specs.Bound.{Bound}
+use Rattle.mutator_threads.specs.declared.worker.Worker.{Worker}
 use Rattle.version_rule.specs.Pass.{Pass}
 use Rattle.client_threads.specs.Clients.{IsReady, IsSessionFor, places_for}
 use Rattle.client_threads.specs.declared.clients.Client.{Client}
@@ -100,10 +100,8 @@ session_for l client room s is = record {
   may = λ m begun _. is.may m begun;
 }
 
-pub ready_session : (heap : HeapId) (queue : FreeQueue) (l : Limits) (script : List Command)
-    (place : ℕ) (client : Client) → IsReady heap queue l script place client
-    → IsNewSession l (place + 1) client.session
-ready_session heap queue l script place client ready =
-    new_session l (place + 1) client.session
-    (subst (λ (room : ℕ). IsSessionFor l (place + 1) room client.session) ready.seat.room
-    ready.session)
+pub ready_session : (heap : HeapId) (queue : FreeQueue) (l : Limits) (number : ℕ)
+    (client : Worker Pass Client) → IsReady heap queue l number client
+    → IsNewSession l (number + 1) client.own.session
+ready_session heap queue l number client ready =
+    new_session l (number + 1) client.own.session ready.own.session

@@ -1,10 +1,10 @@
 -- The clients after their run: their logs, and the collector's seat with theirs joined.
 -- Source: this project's.
-use Rattle.std.specs.Prelude.{ℕ, ◌≡◌, ◌<◌, List, [], ◌∷◌, length, take}
+use Rattle.std.specs.Prelude.{ℕ, ◌≡◌, ◌<◌, Bool, List, [], ◌∷◌, length, take}
 use mathlib.Core.Option.{some}
 use lib.ListN.{get_elem?}
 use Rattle.client_threads.specs.Clients.{commands_of}
-use Rattle.beside_collector.specs.Serving.{IsStill}
+use Rattle.client_threads.specs.declared.clients.Client.{Client}
 use Rattle.doc_model.specs.Answers.{Limits}
 use Rattle.doc_model.specs.ClientLog.{ClientLog}
 pub use Rattle.doc_model.specs.Scripts.{lists_of}
@@ -12,7 +12,6 @@ use Rattle.doc_model.specs.declared.command.Command.{Command}
 use Rattle.heap_rule.specs.declared.view.Place.{Place}
 use Rattle.heap_rule.specs.declared.view.Place.TheVariants as places
 use Rattle.heap_rule.specs.declared.view.Share.{Share}
-use Rattle.heap_table.specs.Seats.{SeatView}
 use Rattle.client_history.specs.Left.{AreLeft}
 use Rattle.version_rule.specs.Pass.{Pass}
 
@@ -41,8 +40,15 @@ AllHadRoom room joined count = (i : ℕ) → i < count → HadRoom room joined i
 -- All clients are taken back, of which there were so many: their seats are joined, each of which
 -- had so many places, and the logs are theirs.
 pub record AreTaken (l : Limits) (cells room clients : ℕ) (logs : List ClientLog)
-    (old new : SeatView Pass) : Type 0 where
-  pub still : IsStill old new
+    (joined : List (Place Pass)) : Type 0 where
   pub many : length logs ≡ clients
-  pub left : AreLeft l cells logs new.me.places clients
-  pub rooms : AllHadRoom room new.me.places clients
+  pub left : AreLeft l cells logs joined clients
+  pub rooms : AllHadRoom room joined clients
+
+-- what a client gives
+
+abbrev pub log_of : Client → ClientLog
+log_of client = client.session.journal.log
+
+abbrev pub has_failed : Client → Bool
+has_failed client = client.failed

@@ -4,7 +4,7 @@ use Rattle.std.proofs.Common.{◌≡◌, ◌≤◌, ◌+◌, ◌*◌, ℕ, true,
 use Rattle.std.proofs.Common.{length, map, refl, sym, ◌∙◌, ap, subst, arith}
 use Rattle.beside_collector.specs.Coming.{Entered, Left}
 use Rattle.client_session.specs.declared.journal.Limits.{Limits}
-use Rattle.client_threads.specs.Clients.{IsNewSeat, store_limits}
+use Rattle.client_threads.specs.Clients.{store_limits}
 use Rattle.client_threads.specs.Going.{Waits}
 use Rattle.client_history.specs.State.{ClientState}
 use Rattle.client_history.proofs.Stepping.{in_step_opening}
@@ -18,12 +18,12 @@ use Rattle.trails.specs.Marks.{Mark, marks_of}
 use Rattle.version_rule.specs.Pass.{Commit, Pass}
 use Rattle.version_rule.specs.Spelling.{bare_root}
 use Rattle.held_places.proofs.Going.{many_cells}
-use Rattle.doc_export.specs.Guests.{Copies, IsThrough, MayTell}
+use Rattle.doc_export.specs.Guests.{Copies, IsThrough, IsWaiting, MayTell}
 use Rattle.doc_export.specs.declared.guest.Guest.{Guest}
 use Rattle.doc_export.specs.declared.guest.Through.{Through}
 
 module _ (heap : HeapId) (l : Limits) (guest : Guest) (a b : Bound Pass)
-    (new : IsNewSeat heap l guest.place guest.seat) (came : Entered heap guest.seat a)
+    (new : IsWaiting heap l guest.place guest.seat) (came : Entered heap guest.seat a)
     (waits : Waits a b) where
   pub waited_inside : b.seat.me.presence.inside ≡ true
   waited_inside = waits.kept.inside ∙ came.inside
@@ -35,7 +35,7 @@ module _ (heap : HeapId) (l : Limits) (guest : Guest) (a b : Bound Pass)
 
   pub waited_room : 4_096 ≤ l.minor → 20_000 ≤ b.seat.me.room
   waited_room least =
-      let is : b.seat.me.room ≡ 4 * l.minor + 16_384 = waits.kept.room ∙ came.room ∙ new.room in
+      let is : b.seat.me.room ≡ 4 * l.minor + 16_384 = waits.kept.room ∙ came.room ∙ new.room_is in
       omega (arith, is, least)
 
   module _ (c : Bound Pass) (t : Through) (copies : Copies b c t.copied)
@@ -48,12 +48,12 @@ module _ (heap : HeapId) (l : Limits) (guest : Guest) (a b : Bound Pass)
       );
       number_is = left.number ∙ copies.same.number ∙ waits.kept.number ∙ came.number
           ∙ new.number_is;
-      room = left.room ∙ copies.same.room ∙ waits.kept.room ∙ came.room ∙ new.room;
+      room = left.room ∙ copies.same.room ∙ waits.kept.room ∙ came.room ∙ new.room_is;
       over = left.over;
       keep = ap (λ (p : Pass). p.keep) left.pass ∙ copies.keep
-          ∙ ap (λ (p : Pass). p.keep) (waits.kept.pass ∙ came.pass) ∙ new.keep;
+          ∙ ap (λ (p : Pass). p.keep) (waits.kept.pass ∙ came.pass ∙ new.pass_is);
       commits = ap (λ (p : Pass). p.commits) left.pass ∙ copies.commits
-          ∙ ap (λ (p : Pass). p.commits) (waits.kept.pass ∙ came.pass) ∙ new.commits;
+          ∙ ap (λ (p : Pass). p.commits) (waits.kept.pass ∙ came.pass ∙ new.pass_is);
       tells = subst (λ (p : Pass). MayTell p (marks_of t.seat.me.trail) t.copied) (sym left.pass)
           (subst (λ (ms : List Mark). MayTell c.seat.me.pass ms t.copied) (sym left.marks)
           copies.tells);

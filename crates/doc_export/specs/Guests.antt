@@ -5,15 +5,16 @@ use Rattle.std.specs.declared.alloc.Global.{Global}
 use Rattle.client_session.specs.declared.journal.Limits.{Limits}
 use Rattle.client_threads.specs.Clients.{places_for}
 use Rattle.doc_tree.specs.Tree.{DocTree, count}
-use Rattle.heap_table.specs.Seats.{HeapId, IsSeatOf}
+use Rattle.heap_table.specs.Seats.{HeapId, IsSeatOf, SeatView}
 use Rattle.mutator_seat.specs.Bound.{Bound}
+use Rattle.mutator_threads.specs.Mutators.{IsNew}
 use Rattle.trails.specs.Asks.{InOrder}
 use Rattle.trails.specs.Marks.{Mark, marks_of}
 use Rattle.dump_text.specs.Dump.{dump_of}
 use Rattle.version_export.specs.declared.fault.DumpFault.{DumpFault}
 use Rattle.version_export.specs.declared.fault.DumpFault.TheVariants as faults
 use Rattle.version_rule.specs.Fits.{Fits, HasTree}
-use Rattle.version_rule.specs.Pass.{Pass}
+use Rattle.version_rule.specs.Pass.{Pass, opening_pass}
 use Rattle.version_store.specs.Calls.{version_asks}
 use Rattle.version_store.specs.Lasts.{IsSameMutator, marks}
 use Rattle.doc_export.specs.declared.guest.Copied.{Copied}
@@ -56,6 +57,11 @@ pub record Copies (old new : Bound Pass) (copied : Option Copied) : Type 0 where
   pub keep : new.seat.me.pass.keep ≡ old.seat.me.pass.keep
   pub commits : new.seat.me.pass.commits ≡ old.seat.me.pass.commits
   pub tells : MayTell new.seat.me.pass (marks new) copied
+
+-- The guest, which has the mutator with this number, has not begun.
+abbrev pub IsWaiting : HeapId → Limits → ℕ → SeatView Pass → Type 0
+IsWaiting heap l number seat =
+    IsNew heap number (places_for l.minor) (opening_pass number l.keep) seat
 
 -- The guest is done: its mutator, the one with this number, is over, and made no version.
 pub record IsThrough (heap : HeapId) (l : Limits) (place : ℕ) (t : Through) : Type 0 where

@@ -1,3 +1,4 @@
 pub mod Dumps
 pub mod Guests
 pub mod Parts
+pub mod Workers

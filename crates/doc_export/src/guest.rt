@@ -1,7 +1,6 @@
 //! The guest: alongside the clients it takes the latest version, and commits nothing.
 ghost use Rattle.std.specs.Prelude.{◌≡◌, ◌+◌, ◌≤◌, length, true};
-ghost use Rattle.client_threads.specs.Clients.{IsNewSeat};
-ghost use Rattle.doc_export.specs.Guests.{Copies, IsThrough, TellsWithout};
+ghost use Rattle.doc_export.specs.Guests.{Copies, IsThrough, IsWaiting, TellsWithout};
 ghost use Rattle.doc_records.specs.Trees.{tree_of};
 ghost use Rattle.doc_tree.specs.Tree.{count};
 ghost use Rattle.version_rule.specs.Pass.{reading};
@@ -61,7 +60,7 @@ pub(crate) fn take_version<R: Wait, G: Ending>(
     guest: Guest,
 ) -> Through
     requires minor { 4_096 ≤ limits.minor }
-    requires guest { IsNewSeat heap.now limits guest.place guest.seat }
+    requires guest { IsWaiting heap.now limits guest.place guest.seat }
     ensures through { IsThrough heap.now limits guest.place result }
 {
     let _ = limits;

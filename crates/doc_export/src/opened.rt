@@ -4,37 +4,37 @@
 //!
 //! An opened heap can't be dropped, and no other module can take it apart: only `run_opened` does,
 //! and that closes it. So an opened heap is always closed, also where memory runs out.
-ghost use Rattle.std.specs.Prelude.{◌≡◌, ◌≤◌, All, IfOk, [], false, length, map, vec_capacity};
+ghost use Rattle.std.specs.Prelude.{◌≡◌, ◌≤◌, ◌+◌, All, IfOk, [], false, length, map};
+ghost use Rattle.std.specs.Prelude.{vec_capacity};
 ghost use Rattle.client_run.specs.Options.{IsWithin};
-ghost use Rattle.client_threads.specs.Clients.{AllDone, AllReady, IsNewSeat};
 ghost use Rattle.client_threads.specs.Taken.{commands_in, lists_of};
-ghost use Rattle.doc_export.specs.Guests.{IsThrough};
 ghost use Rattle.doc_export.specs.Parts.{IsOpened, MayDump};
+ghost use Rattle.doc_export.specs.Workers.{AllReady, HaveWorked};
+ghost use Rattle.std.specs.Thread.{IsSync};
 
 use crate::beside::run_with_guest;
 use crate::ending::Ending;
-use crate::guest::{Copied, Guest, Through};
-use beside_collector::{Doing, Keeper, run_beside, serve_after};
+use crate::guest::Copied;
+use beside_collector::Doing;
 use cell_heap::Passes;
 use client_history::Documents;
 use client_run::Options;
-use client_threads::{Client, OpenStore, open_store, take_back};
+use client_threads::{Client, open_store, take_logs};
 use collector::NoMemory;
 use doc_model::{Command, Log};
-use free_cells::FreeQueue;
-use heap_table::CellHeap;
 use minor_heap::MinorHeap;
+use mutator_threads::{Closed as ClosedHeap, Opened as OpenHeap, Worker, close, run_alongside};
 use std::alloc::Global;
 use std::sync::Wait;
 use std::thread::Threads;
 
-/// A store's heap with all that its clients, its guest and its collector need.
+/// A store's heap with all that its clients, its guest and its collector need, and the list of what
+/// they leave.
 pub(crate) struct Opened {
-    heap: CellHeap<Documents>,
-    queue: FreeQueue,
-    keeper: Keeper<Documents>,
+    store: OpenHeap<Documents, Client>,
     clients: Vec<Client>,
-    guest: Guest,
+    /// the guest's, for the readers of trees
+    minor: MinorHeap,
 }
 
 /// The result of a run after its opening. There is no version where the guest ran out of memory.
@@ -47,8 +47,8 @@ pub(crate) struct Closed {
     pub(crate) failed: bool,
 }
 
-/// Opens the heap of a run, with a client for each script, and with a guest. The collector is on
-/// duty if it may make cycles.
+/// Opens the heap of a run, with a client for each script, and with one more for the guest, which
+/// answers nothing.
 pub(crate) fn open_run<R: Threads + Wait + Sync>(
     alloc: Global,
     rt: &R,
@@ -61,40 +61,14 @@ pub(crate) fn open_run<R: Threads + Wait + Sync>(
     requires options { IsWithin options.now }
     ensures opened { IfOk result (λ made. IsOpened options.now scripts.now made) }
 {
-    let place = scripts.len() as u32;
-    let limits = options.client_limits();
+    let number = scripts.len() as u32 + 1;
     let minor = MinorHeap::with_room(alloc, 0)?;
-    let store = open_store(
-        alloc,
-        rt,
-        scripts,
-        place + 1,
-        options.cells,
-        options.cycles,
-        limits,
-    )?;
-    let OpenStore {
-        heap,
-        queue,
-        keeper,
-        clients,
-    } = store;
-    let Keeper {
-        mut seat,
-        stack,
-        pass,
-    } = keeper;
-    let own = seat.split(alloc, &heap, place, 4 * limits.minor + 16_384)?;
+    let clients = Vec::with_capacity(alloc, scripts.len() + 1)?;
+    let store = open_store(alloc, rt, number, options.cells, options.client_limits())?;
     Ok(Opened {
-        heap,
-        queue,
-        keeper: Keeper { seat, stack, pass },
+        store,
         clients,
-        guest: Guest {
-            place,
-            seat: own,
-            minor,
-        },
+        minor,
     })
 }
 
@@ -121,34 +95,36 @@ pub(crate) fn run_opened<R: Threads + Wait + Sync, G: Ending + Sync>(
         → map commands_in result.logs.items ≡ lists_of scripts.now }
 {
     let limits = options.client_limits();
+    let cycles = options.cycles;
     let Opened {
+        store,
+        clients,
+        minor,
+    } = opened;
+    let OpenHeap {
         heap,
         queue,
         keeper,
-        clients,
-        guest,
-    } = opened;
+        workers,
+    } = store;
     let at = &heap;
     let hints = &queue;
-    let run = move || -> (Vec<Client>, Through)
-        requires { AllReady at.now hints.now limits scripts.now clients.items
-            × (4_096 ≤ limits.minor) × IsNewSeat at.now limits guest.place guest.seat }
-        ensures { AllDone at.entry.now limits scripts.entry.now result.0.items
-            × (length result.0.items ≡ length clients.items)
-            × IsThrough at.entry.now limits guest.place result.1 }
-    { run_with_guest(alloc, rt, gate, at, hints, scripts, limits, clients, guest) };
-    let cycles = options.cycles;
-    let work = Doing { run };
-    let (done, seat, standby) = run_beside(alloc, rt, at, hints, keeper, cycles, work);
-    let (clients, through) = done;
-    let mut seat = seat;
+    let run = move || -> (Vec<Worker<Documents, Client>>, Option<Copied>)
+        requires { IsSync R.row × IsSync G.row × (length scripts.now ≤ 63)
+            × All (λ script. length script.items ≤ 100_000) scripts.now
+            × (at.now.shape.setting ≡ limits.keep) × (4_096 ≤ limits.minor)
+            × AllReady at.now hints.now limits workers.items
+            × (length workers.items ≡ length scripts.now + 1) }
+        ensures { HaveWorked at.entry.now limits scripts.entry.now result.0.items result.1 }
+    { run_with_guest(alloc, rt, gate, at, hints, scripts, limits, workers, minor) };
+    let (done, off) = run_alongside(alloc, rt, at, hints, keeper, cycles, Doing { run });
+    let (workers, copied) = done;
+    let (closed, clients) = close(rt, heap, &queue, cycles, off, workers, clients);
+    let mut clients = clients;
+    clients.truncate(scripts.len());
     let mut logs = logs;
-    let failed = take_back(&heap, limits, scripts, clients, &mut seat, &mut logs);
-    let Through { seat: own, copied } = through;
-    seat.join(&heap, own);
-    let seat = serve_after(rt, &heap, &queue, cycles, seat, standby);
-    let (image, passes) = seat.close(heap);
-    let _ = image;
+    let failed = take_logs(clients, &mut logs);
+    let ClosedHeap { passes, .. } = closed;
     Closed {
         logs,
         passes,

@@ -39,6 +39,8 @@ pub struct Opened<P: Keeping, T> {
 
 /// Opens a heap of so many cells, of which the first have the given rows, for so many mutators.
 /// Each may hold so many cells at a time, and has of its own what the closure makes for its number.
+///
+/// The queue is opened after the heap, in memory that the heap's opening gave back.
 pub fn open<P: Keeping, T: Drop, F: Fn(u32) -> Result<T, NoMemory>, R: Wait>(
     alloc: Global,
     rt: &R,
@@ -61,9 +63,9 @@ pub fn open<P: Keeping, T: Drop, F: Fn(u32) -> Result<T, NoMemory>, R: Wait>(
         record { cells = cells; mutators = mutators; setting = setting; first = rows.now }
         room (λ number one. F.post own number (Ok one)) made) }
 {
+    let (heap, mut seat) = ColSeat::<P>::open(alloc, cells, mutators, setting, rows)?;
     let (queue, mut pass) = FreeQueue::open(alloc, rt, cells, rows.len() as u32)?;
     let stack = MarkStack::with_room(alloc, cells.min(MOST_MARKS))?;
-    let (heap, mut seat) = ColSeat::<P>::open(alloc, cells, mutators, setting, rows)?;
     let workers = split_workers(
         alloc, &heap, &queue, mutators, room, &own, &mut seat, &mut pass,
     )?;

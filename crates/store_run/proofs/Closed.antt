@@ -13,8 +13,8 @@ use mathlib.Core.Option.{some}
 use lib.ListN.{get_elem?}
 use Rattle.client_run.specs.Options.{limits_of, shape_of}
 use Rattle.client_run.specs.declared.options.Options.{Options}
-use Rattle.client_threads.proofs.AtClose.{AtClose, agreed, cycles_made, few_cycles, service, tidy}
-use Rattle.client_threads.proofs.AtClose.{tied}
+use Rattle.client_threads.specs.Ends.{IsService}
+use Rattle.client_threads.proofs.AtClose.{AtClose, agreed, tied}
 use Rattle.client_history.specs.Runs.{was_full}
 use Rattle.closed_store.proofs.Kept.{census_kept}
 use Rattle.closed_store.specs.Chain.{ShowsVersions}
@@ -24,6 +24,7 @@ use Rattle.closed_store.proofs.Chaining.{versions_shown}
 use Rattle.closed_heap.proofs.Claiming.{all_claimed}
 use Rattle.closed_heap.proofs.Out.{joined_out}
 use Rattle.core_machine.specs.Collector.{Collector}
+use Rattle.dlg_core.specs.Collects.{IsTidy}
 use Rattle.dlg_core.specs.Sums.{claims_of}
 use Rattle.doc_model.specs.Agreement.{rising}
 use Rattle.doc_model.specs.ClientLog.{ClientLog}
@@ -35,6 +36,7 @@ use Rattle.heap_rule.specs.Shape.{Shape}
 use Rattle.heap_rule.specs.declared.view.Place.TheVariants as places
 use Rattle.heap_rule.specs.declared.view.View.{View}
 use Rattle.heap_table.specs.Images.{ImageView, Shows}
+use Rattle.mutator_threads.specs.Closing.{HasCollected}
 use Rattle.client_history.specs.Agreed.{LogsAgree}
 use Rattle.store_run.specs.Answered.{commands_of}
 use Rattle.store_run.specs.Finished.{Comes, IsTotals}
@@ -164,13 +166,17 @@ module _ (o : Options) (scripts : List (List Command)) (logs : List ClientLog)
         all_claimed (shape_of o (length scripts)) image.words v ended found.client one.share
         had.before had.stretch had.after one.share_at had.is had.meets
 
-    comes_here : (totals : Totals) → AreCounted logs image v o.cells totals
+    comes_here : (f : ℕ)
+        → HasCollected (shape_of o (length scripts)) o.cycles f ended.shows.core v
+        → (totals : Totals) → AreCounted logs image v o.cells totals
         → map commands_of logs ≡ scripts → Comes o scripts logs image v totals
     unfolding counted_here
-    comes_here totals are answered =
+    comes_here f collected totals are answered =
         let totals_are = are.are (counted_here are.freed are.freed_is) in
         let n = length scripts in
-        let cycles = totals_are.cycles ∙ cycles_made o n n logs image.words v at ended in
+        let cycles = totals_are.cycles in
+        let tidy : totals.cycles < o.cycles → IsTidy ended.shows.core =
+        (λ fewer. collected.tidy (omega (arith, cycles, fewer))) in
         let claimed = agrees.claimed in
         let a = totals_are.versions in
         let b = totals_are.claimed in
@@ -186,12 +192,12 @@ module _ (o : Options) (scripts : List (List Command)) (logs : List ClientLog)
             made = agrees.made ∙ ap (λ (n : ℕ). n + 1) (sym a);
             claims = omega (arith, claimed, a, b);
             full = λ met. let whole = full_here met in omega (arith, whole, b);
-            service = service o n n logs image.words v at ended totals.cycles cycles;
-            cycles = few_cycles o n n logs image.words v at ended totals.cycles cycles;
-            tidy = tidy o n n logs image.words v at ended totals.cycles cycles;
+            service = subst (λ (k : ℕ). IsService o.cycles n k v.trail) (sym cycles)
+                collected.service;
+            cycles = let few = collected.cycles_are in omega (arith, cycles, few);
+            tidy = tidy;
             census = census_kept (shape_of o (length scripts)) image v ended o.keep
-                ended.shows.kept.trees stay (totals.cycles < o.cycles) shown
-                (tidy o n n logs image.words v at ended totals.cycles cycles);
+                ended.shows.kept.trees stay (totals.cycles < o.cycles) shown tidy;
           };
           answered = record {
             clients = agrees.agree.clients ∙ ap (λ (n : ℕ). rising 0 n) at.many;
@@ -212,10 +218,13 @@ module _ (o : Options) (scripts : List (List Command)) (logs : List ClientLog)
 
   pub comes : (h : Shape) → h ≡ shape_of o (length scripts)
       → (ended : EndedStore h image.words v) → Shows image ended.shows.core
+      → (f : ℕ) → HasCollected h o.cycles f ended.shows.core v
       → (totals : Totals) → AreCounted logs image v o.cells totals
       → map commands_of logs ≡ scripts → Comes o scripts logs image v totals
   comes h is =
       subst (λ (k : Shape). (ended : EndedStore k image.words v) → Shows image ended.shows.core
+      → (f : ℕ) → HasCollected k o.cycles f ended.shows.core v
       → (totals : Totals) → AreCounted logs image v o.cells totals
       → map commands_of logs ≡ scripts → Comes o scripts logs image v totals) (sym is)
-      (λ ended shown totals are answered. comes_here ended shown totals are answered)
+      (λ ended shown f collected totals are answered.
+      comes_here ended shown f collected totals are answered)

@@ -1,33 +1,24 @@
 -- From the opening of a run and its parts to what stands where its heap is closed.
---
--- A collector that got no thread serves late, after all seats were joined. So each of its polls
--- finds its mutator over: the ledger has what the joined mutator left (heap_table proofs/Looking,
--- cell_heap proofs/Joined, collector proofs/Joining).
 use Rattle.std.proofs.Common.{◌≡◌, ◌≤◌, ℕ}
 use Rattle.std.proofs.Common.{List, [], ◌∷◌}
 use Rattle.std.proofs.Common.{All, length, map}
-use Rattle.std.proofs.Common.{Option, sym, ◌∙◌, ap, subst, arith}
+use Rattle.std.proofs.Common.{sym, ◌∙◌, ap, subst, arith}
 use Rattle.std.specs.Prelude.{Vec}
 use Rattle.std.specs.declared.alloc.Global.{Global}
 use Rattle.std.proofs.lemmas.List.{length-map, length-take}
 use Rattle.std.proofs.lemmas.List.Elements.{All-cons, All-head, All-nil, All-tail}
-use Rattle.beside_collector.specs.Serving.{ServesLate, Stands}
-use Rattle.beside_collector.specs.declared.keeper.Standby.{Standby}
 use Rattle.client_run.specs.Options.{IsWithin, client_limits, limits_of, shape_of}
 use Rattle.client_run.specs.declared.options.Options.{Options}
 use Rattle.client_session.specs.declared.journal.Limits.{Limits as ClientLimits}
 use Rattle.client_threads.specs.Clients.{places_for, store_limits}
 use Rattle.client_threads.specs.Taken.{AreFronts, AreTaken, lists_of}
-use Rattle.client_threads.proofs.AtClose.{AtClose, at_close}
+use Rattle.client_threads.proofs.AtClose.{AtClose}
 use Rattle.doc_model.specs.ClientLog.{ClientLog}
 use Rattle.doc_model.specs.declared.command.Command.{Command}
 use Rattle.doc_model.specs.declared.command.Entry.{Entry}
-use Rattle.free_cells.specs.declared.queue.FreeQueue.{FreeQueue}
 use Rattle.heap_rule.specs.Shape.{Shape}
-use Rattle.heap_table.specs.Seats.{SeatView}
+use Rattle.heap_rule.specs.declared.view.View.{View}
 use Rattle.store_run.specs.Answered.{commands_of}
-use Rattle.store_run.specs.Parts.{IsOpened}
-use Rattle.store_run.specs.declared.opened.Opened.{Opened}
 use Rattle.version_rule.specs.Pass.{Pass}
 
 -- logs with the first commands of short scripts are short
@@ -59,29 +50,24 @@ pub shaped : (o : Options) (scripts : List (Vec Command Global)) (h : Shape)
 shaped o scripts h is =
     is ∙ ap (λ (n : ℕ). shape_of o n) (sym (many_lists scripts))
 
--- What is known at the close, from the opening as it was given: for so many lists as there are
--- scripts.
-module _ (o : Options) (scripts : List (Vec Command Global)) (made : Opened)
-    (opened : IsOpened o scripts made) where
-  pub shape_there : made.store.heap.shape ≡ shape_of o (length (lists_of scripts))
-  shape_there = shaped o scripts made.store.heap.shape opened.shape
-
-  pub closing : (limits : ClientLimits) (queue : FreeQueue) (mid joined last : SeatView Pass)
-      (standby : Option Standby) (logs : List ClientLog) (lists : List (List Command))
-      → 1 ≤ length scripts → IsWithin o → limits ≡ client_limits o
-      → Stands made.store.heap queue o.cycles made.store.keeper.seat mid standby
-      → AreTaken (store_limits limits) made.store.heap.shape.cells (places_for limits.minor)
-      (length scripts) logs mid joined
-      → ServesLate o.cycles standby joined last
-      → length lists ≡ length scripts
-      → AtClose o (length lists) (length lists) logs last.me
-  closing limits queue mid joined last standby logs lists least within limits_are stands taken late
-      many =
-      let those : AreTaken (limits_of o) made.store.heap.shape.cells (places_for o.minor)
-      (length scripts) logs mid joined =
-      subst (λ (l : ClientLimits). AreTaken (store_limits l) made.store.heap.shape.cells
-      (places_for l.minor) (length scripts) logs mid joined) limits_are taken in
-      subst (λ (n : ℕ). AtClose o n n logs last.me) (sym many)
-      (at_close o (length scripts) (length scripts) made.store.heap queue made.store.keeper.seat mid
-      joined last standby logs least within opened.shape opened.seat opened.trail opened.no_cycles
-      stands those.still those.many those.left those.rooms late)
+-- What is known at the close, for so many lists as there are scripts.
+pub closing : (o : Options) (scripts : List (Vec Command Global)) (h : Shape)
+    (limits : ClientLimits) (logs : List ClientLog) (lists : List (List Command))
+    (v : View Pass) → h ≡ shape_of o (length scripts) → 1 ≤ length scripts → IsWithin o
+    → limits ≡ client_limits o
+    → AreTaken (store_limits limits) h.cells (places_for limits.minor) (length scripts) logs v.places
+    → length lists ≡ length scripts
+    → AtClose o (length lists) (length lists) logs v
+closing o scripts h limits logs lists v shape least within limits_are taken many =
+    let those : AreTaken (limits_of o) o.cells (places_for o.minor) (length scripts) logs v.places =
+    subst (λ (k : Shape). AreTaken (limits_of o) k.cells (places_for o.minor) (length scripts)
+    logs v.places) shape
+    (subst (λ (l : ClientLimits). AreTaken (store_limits l) h.cells (places_for l.minor)
+    (length scripts) logs v.places) limits_are taken) in
+    subst (λ (n : ℕ). AtClose o n n logs v) (sym many) record {
+      least = least;
+      within = within;
+      many = those.many;
+      left = those.left;
+      rooms = those.rooms;
+    }

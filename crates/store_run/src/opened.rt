@@ -4,8 +4,9 @@
 //! An opened heap can't be let go, and no other module can take it apart: `run_opened` alone does,
 //! and that closes it. So whoever opened one closes it, also where memory runs out.
 ghost use Rattle.std.specs.Prelude.{◌≡◌, ◌≤◌, All, IfOk, [], false, length, map, vec_capacity};
+ghost use Rattle.beside_collector.specs.Scripts.{script_of};
 ghost use Rattle.client_run.specs.Options.{IsWithin};
-ghost use Rattle.client_threads.specs.Clients.{AllDone, AllReady};
+ghost use Rattle.client_threads.specs.Clients.{IsDone, IsReady};
 ghost use Rattle.client_threads.specs.Taken.{AreFronts, lists_of};
 ghost use Rattle.store_run.specs.Answered.{commands_of};
 ghost use Rattle.store_run.specs.Finished.{Comes};
@@ -13,19 +14,23 @@ ghost use Rattle.store_run.specs.Parts.{IsOpened};
 
 use crate::finished::Finished;
 use crate::totals::totals_of;
-use beside_collector::{Doing, run_beside, serve_after};
+use client_history::Documents;
 use client_run::Options;
-use client_threads::{Client, OpenStore, open_store, run_each, take_back};
+use client_threads::{Client, open_store, run_client, take_logs};
 use collector::NoMemory;
 use doc_model::{Command, Log};
+use mutator_threads::{Closed as ClosedHeap, Opened as OpenHeap, Worker, close, run_workers};
 use outside::Gate;
 use std::alloc::Global;
 use std::sync::Wait;
 use std::thread::Threads;
 
-/// A store's heap with all that its clients and its collector need.
+/// A store's heap with all that its clients and its collector need, and the lists of what they
+/// leave.
 pub(crate) struct Opened {
-    store: OpenStore,
+    store: OpenHeap<Documents, Client>,
+    clients: Vec<Client>,
+    logs: Vec<Log>,
 }
 
 /// The outcome of a run after its opening, and whether memory ran out for some client.
@@ -35,8 +40,7 @@ pub(crate) struct Closed {
     pub(crate) failed: bool,
 }
 
-/// Opens the heap of a run, with a client for each script. The collector is on duty where it may
-/// make cycles.
+/// Opens the heap of a run, with a client for each script.
 pub(crate) fn open_run<R: Threads + Wait + Sync>(
     alloc: Global,
     rt: &R,
@@ -49,23 +53,20 @@ pub(crate) fn open_run<R: Threads + Wait + Sync>(
     requires options { IsWithin options.now }
     ensures opened { IfOk result (λ made. IsOpened options.now scripts.now made) }
 {
-    let mutators = scripts.len() as u32;
-    let limits = options.client_limits();
-    let store = open_store(
-        alloc,
-        rt,
-        scripts,
-        mutators,
-        options.cells,
-        options.cycles,
-        limits,
-    )?;
-    Ok(Opened { store })
+    let number = scripts.len() as u32;
+    let clients = Vec::with_capacity(alloc, scripts.len())?;
+    let logs = Vec::with_capacity(alloc, scripts.len())?;
+    let store = open_store(alloc, rt, number, options.cells, options.client_limits())?;
+    Ok(Opened {
+        store,
+        clients,
+        logs,
+    })
 }
 
 /// Runs the scripts' commands on the opened heap and closes it, whatever became of the clients.
 /// What is finished is a run of the commands that were answered: the first of each script, or all
-/// of them where nobody ran out of memory. The list has room for the logs.
+/// of them where nobody ran out of memory.
 pub(crate) fn run_opened<R: Threads + Wait + Sync, G: Gate + Sync>(
     alloc: Global,
     rt: &R,
@@ -73,14 +74,11 @@ pub(crate) fn run_opened<R: Threads + Wait + Sync, G: Gate + Sync>(
     options: &Options,
     gate: &G,
     opened: Opened,
-    logs: Vec<Log>,
 ) -> Closed
     requires some { 1 ≤ length scripts.now }
     requires short { All (λ script. length script.items ≤ 100_000) scripts.now }
     requires options { IsWithin options.now }
     requires opened { IsOpened options.now scripts.now opened }
-    requires empty { logs.items ≡ [] }
-    requires room { length scripts.now ≤ vec_capacity logs }
     ensures comes { Comes options.now (map commands_of result.finished.logs.items)
         result.finished.logs.items result.finished.image result.finished.passes
         result.finished.totals }
@@ -89,30 +87,36 @@ pub(crate) fn run_opened<R: Threads + Wait + Sync, G: Gate + Sync>(
         → map commands_of result.finished.logs.items ≡ lists_of scripts.now }
 {
     let limits = options.client_limits();
-    let Opened { store } = opened;
-    let OpenStore {
+    let cycles = options.cycles;
+    let Opened {
+        store,
+        clients,
+        mut logs,
+    } = opened;
+    let OpenHeap {
         heap,
         queue,
         keeper,
-        clients,
+        workers,
     } = store;
     let at = &heap;
     let hints = &queue;
-    let run = move || -> Vec<Client>
-        requires { AllReady at.now hints.now limits scripts.now clients.items }
-        ensures { AllDone at.entry.now limits scripts.entry.now result.items
-            × (length result.items ≡ length clients.items) }
-    { run_each(alloc, rt, gate, at, hints, scripts, limits, clients) };
-    let cycles = options.cycles;
-    let work = Doing { run };
-    let (clients, seat, standby) = run_beside(alloc, rt, at, hints, keeper, cycles, work);
-    let mut seat = seat;
-    let mut logs = logs;
-    let failed = take_back(&heap, limits, scripts, clients, &mut seat, &mut logs);
-    let seat = serve_after(rt, &heap, &queue, cycles, seat, standby);
-    let freed = seat.freed();
-    let (image, passes) = seat.close(heap);
-    let totals = totals_of(&image, freed, &logs);
+    let each = move |number: u32, client: Worker<Documents, Client>| -> Worker<Documents, Client>
+        requires { (at.now.shape.setting ≡ limits.keep)
+            × (length (script_of scripts.now number) ≤ 100_000)
+            × IsReady at.now hints.now limits number client }
+        ensures { IsDone at.entry.now limits scripts.entry.now number result }
+    { run_client(alloc, rt, gate, at, hints, scripts, limits, number, client) };
+    let (workers, off) = run_workers(alloc, rt, at, hints, keeper, cycles, workers, each);
+    let (closed, clients) = close(rt, heap, &queue, cycles, off, workers, clients);
+    let failed = take_logs(clients, &mut logs);
+    let ClosedHeap {
+        image,
+        passes,
+        number_freed,
+        ..
+    } = closed;
+    let totals = totals_of(&image, number_freed, &logs);
     Closed {
         finished: Finished {
             logs,

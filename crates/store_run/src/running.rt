@@ -36,9 +36,8 @@ pub fn run_clients<R: Threads + Wait + Sync, G: Gate + Sync>(
     ensures { IfOk result (λ f. Comes options.now (lists_of scripts.now) f.logs.items f.image
         f.passes f.totals) }
 {
-    let logs = Vec::with_capacity(alloc, scripts.len())?;
     let opened = open_run(alloc, rt, scripts, options)?;
-    let Closed { finished, failed } = run_opened(alloc, rt, scripts, options, gate, opened, logs);
+    let Closed { finished, failed } = run_opened(alloc, rt, scripts, options, gate, opened);
     if failed {
         return Err(NoMemory);
     }

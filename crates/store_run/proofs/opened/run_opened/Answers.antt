@@ -1,122 +1,195 @@
 use Rattle.std.proofs.Common.{◌≡◌, ◌≤◌, ◌∙◌, ℕ, List, All, ap, arith, length, map}
 use Rattle.std.proofs.Common.{refl, subst, sym}
 use Rattle.std.proofs.lemmas.List.{length-map}
+use Rattle.beside_collector.specs.Places.{AllFrom}
+use Rattle.beside_collector.specs.Scripts.{script_of}
+use Rattle.beside_collector.proofs.Scripts.{script_is}
+use Rattle.doc_model.specs.declared.command.Command.{Command}
 use Rattle.client_run.specs.Options.{shape_of}
+use Rattle.client_session.specs.declared.journal.Limits.{Limits}
+use Rattle.client_threads.specs.Clients.{IsDone, IsReady}
 use Rattle.client_threads.specs.Taken.{lists_of}
+use Rattle.client_threads.specs.declared.clients.Client.{Client}
+use Rattle.client_threads.proofs.TakingBack.{clients_over, have_left}
 use Rattle.doc_model.specs.ClientLog.{ClientLog}
 use Rattle.heap_rule.specs.Shape.{Shape}
-use Rattle.heap_rule.specs.declared.view.Place.{Place}
-use Rattle.heap_rule.specs.declared.view.View.{View}
+use Rattle.mutator_threads.proofs.EachDone.{all_done, all_so}
+use Rattle.mutator_threads.specs.declared.worker.Worker.{Worker}
 use Rattle.store_run.specs.Answered.{commands_of}
-use Rattle.store_run.specs.Finished.{Comes, IsTotals}
+use Rattle.store_run.specs.Finished.{IsTotals}
 use Rattle.version_rule.specs.Pass.{Pass}
 use Rattle.store_run.proofs.Closed.{comes, counted}
-use Rattle.client_threads.proofs.Serving.{late_seat, may_serve, stands_places, stands_seat}
-use Rattle.client_threads.proofs.Serving.{still_seat}
-use Rattle.store_run.proofs.Ending.{closing, many_lists, shape_there, short_logs}
+use Rattle.store_run.proofs.Ending.{closing, many_lists, shaped, short_logs}
 use Rattle.store_run.proofs.opened.run_opened.Goals as goal
+
+pub run_workers-workers-requires-clause-few : goal.run_workers-workers-requires-clause-few
+run_workers-workers-requires-clause-few g c =
+    let many = c.requires.opened.store.many in
+    let few = c.requires.opened.few in
+    omega (arith, many, few)
+
+pub run_workers-workers-requires-clause-ready : goal.run_workers-workers-requires-clause-ready
+run_workers-workers-requires-clause-ready g c κs within =
+    let store = c.args.opened.store in
+    let opened = c.requires.opened.store in
+    let limits = c.client_limits-limits.result in
+    let keep : store.heap.shape.setting ≡ limits.keep =
+    ap (λ (h : Shape). h.setting) opened.shape_is
+    ∙ sym (ap (λ (l : Limits). l.keep) c.client_limits-limits.ensures.limits) in
+    all_so (λ (n : ℕ) (w : Worker Pass Client).
+    IsReady store.heap store.queue limits n w)
+    (λ (n : ℕ) (w : Worker Pass Client). (store.heap.shape.setting ≡ limits.keep)
+    × (length (script_of c.args.scripts.now n) ≤ 100_000)
+    × IsReady store.heap store.queue limits n w)
+    (λ n w ready. (
+      keep,
+      script_is (λ (script : List Command). length script ≤ 100_000) (omega arith)
+          c.args.scripts.now n c.requires.short,
+      ready,
+    )) 0 store.workers.items
+    (subst (λ (l : Limits). AllFrom (λ (n : ℕ) (w : Worker Pass Client).
+    IsReady store.heap store.queue l n w) 0 store.workers.items)
+    (sym c.client_limits-limits.ensures.limits) opened.workers)
+
+pub close-closed-requires-clause-many : goal.close-closed-requires-clause-many
+close-closed-requires-clause-many g c =
+    let opened = c.requires.opened.store in
+    c.run_workers-workers.ensures.many ∙ opened.many
+    ∙ sym (ap (λ (h : Shape). h.mutators) opened.shape_is)
+
+pub close-closed-requires-clause-over : goal.close-closed-requires-clause-over
+close-closed-requires-clause-over g c =
+    let store = c.args.opened.store in
+    clients_over store.heap c.client_limits-limits.result c.args.scripts.now
+    c.run_workers-workers.result.0.items
+    (all_done _ (λ (n : ℕ) (w : Worker Pass Client).
+    IsDone store.heap c.client_limits-limits.result c.args.scripts.now n w)
+    (λ place old new has. has) 0 store.workers.items c.run_workers-workers.result.0.items
+    c.run_workers-workers.ensures.done)
+
+pub close-closed-requires-clause-room : goal.close-closed-requires-clause-room
+close-closed-requires-clause-room g c =
+    let many = c.run_workers-workers.ensures.many ∙ c.requires.opened.store.many in
+    let room = c.requires.opened.room_for_clients in
+    omega (arith, many, room)
+
+pub take_logs-failed-requires-clause-room : goal.take_logs-failed-requires-clause-room
+take_logs-failed-requires-clause-room g c =
+    let workers = c.run_workers-workers.result.0.items in
+    let own = ap (λ (cs : List Client). length cs) c.close-closed.ensures.own
+    ∙ length-map workers (λ (w : Worker Pass Client). w.own) in
+    let many = c.run_workers-workers.ensures.many ∙ c.requires.opened.store.many in
+    let room = c.requires.opened.room_for_logs in
+    omega (arith, own, many, room)
+
+pub totals_of-totals-requires-clause-few : goal.totals_of-totals-requires-clause-few
+totals_of-totals-requires-clause-few g c =
+    let store = c.args.opened.store in
+    let opened = c.requires.opened.store in
+    let limits = c.client_limits-limits.result in
+    let scripts = c.args.scripts.now in
+    let workers = c.run_workers-workers.result.0.items in
+    let logs = c.take_logs-failed.new.logs.items in
+    let closed = c.close-closed.result.0 in
+    let is = c.close-closed.ensures.closed.has_closed in
+    let left = have_left store.heap limits scripts workers
+    (all_done _ (λ (n : ℕ) (w : Worker Pass Client). IsDone store.heap limits scripts n w)
+    (λ place old new has. has) 0 store.workers.items workers
+    c.run_workers-workers.ensures.done)
+    (c.run_workers-workers.ensures.many ∙ opened.many) c.close-closed.result.1.items logs
+    c.take_logs-failed.result closed.passes.places is.places_are c.close-closed.ensures.own
+    c.take_logs-failed.ensures.logs c.take_logs-failed.ensures.failed in
+    let same = ap (λ (gs : List ClientLog). length gs) c.deref.ensures.value in
+    let many = left.taken.many in
+    let few = c.requires.opened.few in
+    omega (arith, same, many, few)
 
 pub totals_of-totals-requires-clause-short : goal.totals_of-totals-requires-clause-short
 totals_of-totals-requires-clause-short g c =
+    let store = c.args.opened.store in
+    let opened = c.requires.opened.store in
+    let limits = c.client_limits-limits.result in
+    let scripts = c.args.scripts.now in
+    let workers = c.run_workers-workers.result.0.items in
+    let logs = c.take_logs-failed.new.logs.items in
+    let closed = c.close-closed.result.0 in
+    let is = c.close-closed.ensures.closed.has_closed in
+    let left = have_left store.heap limits scripts workers
+    (all_done _ (λ (n : ℕ) (w : Worker Pass Client). IsDone store.heap limits scripts n w)
+    (λ place old new has. has) 0 store.workers.items workers
+    c.run_workers-workers.ensures.done)
+    (c.run_workers-workers.ensures.many ∙ opened.many) c.close-closed.result.1.items logs
+    c.take_logs-failed.result closed.passes.places is.places_are c.close-closed.ensures.own
+    c.take_logs-failed.ensures.logs c.take_logs-failed.ensures.failed in
     subst (λ (gs : List ClientLog). All (λ (log : ClientLog). length log.entries ≤ 100_000) gs)
-    (sym c.deref.ensures.value)
-    (short_logs c.args.scripts.now c.take_back-failed.new.logs.items c.requires.short
-    c.take_back-failed.ensures.fronts)
+    (sym c.deref.ensures.value) (short_logs scripts logs c.requires.short left.fronts)
+
+pub totals_of-totals-requires-clause-freed : goal.totals_of-totals-requires-clause-freed
+totals_of-totals-requires-clause-freed g c = c.close-closed.ensures.closed.has_closed.few_freed
 
 pub totals_of-totals-requires-clause-counted : goal.totals_of-totals-requires-clause-counted
 totals_of-totals-requires-clause-counted g c =
     let o = c.args.options.now in
+    let store = c.args.opened.store in
+    let opened = c.requires.opened.store in
+    let limits = c.client_limits-limits.result in
     let scripts = c.args.scripts.now in
-    let opened = c.requires.opened in
-    let new = c.serve_after-seat.result in
-    let logs = c.take_back-failed.new.logs.items in
-    let at = closing o scripts c.args.opened opened c.client_limits-limits.result
-    c.args.opened.store.queue c.run_beside-clients.result.1 c.take_back-failed.new.seat new
-    c.run_beside-clients.result.2 logs (lists_of scripts) c.requires.some c.requires.options
-    c.client_limits-limits.ensures.limits c.run_beside-clients.ensures.stands
-    c.take_back-failed.ensures.taken c.serve_after-seat.ensures.served (many_lists scripts) in
-    counted o (lists_of scripts) logs c.close-image.result.0 new.me at
-    c.args.opened.store.heap.shape (shape_there o scripts c.args.opened opened)
-    c.close-image.ensures.ended
-    (c.close-image.ensures.shown c.close-image.ensures.ended) c.freed-freed.result
-    (sym c.freed-freed.ensures.freed)
+    let workers = c.run_workers-workers.result.0.items in
+    let logs = c.take_logs-failed.new.logs.items in
+    let closed = c.close-closed.result.0 in
+    let is = c.close-closed.ensures.closed.has_closed in
+    let left = have_left store.heap limits scripts workers
+    (all_done _ (λ (n : ℕ) (w : Worker Pass Client). IsDone store.heap limits scripts n w)
+    (λ place old new has. has) 0 store.workers.items workers
+    c.run_workers-workers.ensures.done)
+    (c.run_workers-workers.ensures.many ∙ opened.many) c.close-closed.result.1.items logs
+    c.take_logs-failed.result closed.passes.places is.places_are c.close-closed.ensures.own
+    c.take_logs-failed.ensures.logs c.take_logs-failed.ensures.failed in
+    counted o (lists_of scripts) logs closed.image closed.passes
+    (closing o scripts store.heap.shape limits logs (lists_of scripts) closed.passes
+    opened.shape_is c.requires.some c.requires.options c.client_limits-limits.ensures.limits
+    left.taken (many_lists scripts))
+    store.heap.shape (shaped o scripts store.heap.shape opened.shape_is) is.ended is.shows
+    closed.number_freed is.number_freed_is
 
-pub take_back-failed-requires-clause-seat : goal.take_back-failed-requires-clause-seat
-take_back-failed-requires-clause-seat g c =
-    let opened = c.requires.opened in
-    stands_seat c.args.opened.store.heap c.args.opened.store.queue c.args.options.now.cycles
-    c.args.opened.store.keeper.seat c.run_beside-clients.result.1
-    c.run_beside-clients.result.1 c.run_beside-clients.result.2 opened.seat
-    c.run_beside-clients.ensures.stands
-
-pub take_back-failed-requires-clause-places : goal.take_back-failed-requires-clause-places
-take_back-failed-requires-clause-places g c =
-    let opened = c.requires.opened in
-    let same = ap (λ (ps : List (Place Pass)). length ps)
-    (stands_places c.args.opened.store.heap c.args.opened.store.queue
-    c.args.options.now.cycles c.args.opened.store.keeper.seat c.run_beside-clients.result.1
-    c.run_beside-clients.result.1 c.run_beside-clients.result.2
-    c.run_beside-clients.ensures.stands) ∙ opened.places in
-    omega (arith, same)
-
-pub serve_after-seat-requires : goal.serve_after-seat-requires
-serve_after-seat-requires g c = record {
-  may = may_serve c.args.opened.store.heap c.args.opened.store.queue c.args.options.now.cycles
-      c.args.opened.store.keeper.seat c.run_beside-clients.result.1
-      c.take_back-failed.new.seat c.run_beside-clients.result.2
-      c.run_beside-clients.ensures.stands c.take_back-failed.ensures.taken.still;
-}
-
-pub close-image-requires : goal.close-image-requires
-close-image-requires g c =
-    let opened = c.requires.opened in
-    let heap = c.args.opened.store.heap in
-    let queue = c.args.opened.store.queue in
-    let cycles = c.args.options.now.cycles in
-    let first = c.args.opened.store.keeper.seat in
-    let mid = c.run_beside-clients.result.1 in
-    let joined = c.take_back-failed.new.seat in
-    let standby = c.run_beside-clients.result.2 in
-    record {
-      seat = late_seat heap queue cycles first mid joined standby c.serve_after-seat.result
-          (still_seat heap queue cycles first mid joined
-          (stands_seat heap queue cycles first mid joined standby opened.seat
-          c.run_beside-clients.ensures.stands) c.take_back-failed.ensures.taken.still)
-          c.serve_after-seat.ensures.served;
-    }
-
-pub returns-clause-comes : goal.returns-clause-comes
-returns-clause-comes g c =
+pub returns : goal.returns
+returns g c =
     let o = c.args.options.now in
+    let store = c.args.opened.store in
+    let opened = c.requires.opened.store in
+    let limits = c.client_limits-limits.result in
     let scripts = c.args.scripts.now in
-    let opened = c.requires.opened in
-    let new = c.serve_after-seat.result in
-    let logs = c.take_back-failed.new.logs.items in
-    let image = c.close-image.result.0 in
+    let workers = c.run_workers-workers.result.0.items in
+    let logs = c.take_logs-failed.new.logs.items in
+    let closed = c.close-closed.result.0 in
+    let is = c.close-closed.ensures.closed.has_closed in
+    let left = have_left store.heap limits scripts workers
+    (all_done _ (λ (n : ℕ) (w : Worker Pass Client). IsDone store.heap limits scripts n w)
+    (λ place old new has. has) 0 store.workers.items workers
+    c.run_workers-workers.ensures.done)
+    (c.run_workers-workers.ensures.many ∙ opened.many) c.close-closed.result.1.items logs
+    c.take_logs-failed.result closed.passes.places is.places_are c.close-closed.ensures.own
+    c.take_logs-failed.ensures.logs c.take_logs-failed.ensures.failed in
     let totals = c.totals_of-totals.result in
-    let taken = c.take_back-failed.ensures.taken in
     let answered = map commands_of logs in
-    let many : length answered ≡ length (lists_of scripts) =
-    length-map logs commands_of ∙ taken.many ∙ sym (many_lists scripts) in
-    let shape = shape_there o scripts c.args.opened opened
-    ∙ ap (λ (n : ℕ). shape_of o n) (sym many) in
-    let at = closing o scripts c.args.opened opened c.client_limits-limits.result
-    c.args.opened.store.queue c.run_beside-clients.result.1 c.take_back-failed.new.seat new
-    c.run_beside-clients.result.2 logs answered c.requires.some c.requires.options
-    c.client_limits-limits.ensures.limits c.run_beside-clients.ensures.stands
-    taken c.serve_after-seat.ensures.served (many ∙ many_lists scripts) in
-    let whole = comes o answered logs image new.me at
-    c.args.opened.store.heap.shape shape
-    c.close-image.ensures.ended (c.close-image.ensures.shown c.close-image.ensures.ended) totals
+    let many : length answered ≡ length scripts = length-map logs commands_of ∙ left.taken.many in
+    let shape : store.heap.shape ≡ shape_of o (length answered) =
+    opened.shape_is ∙ ap (λ (n : ℕ). shape_of o n) (sym many) in
     record {
-      freed = c.freed-freed.result;
-      freed_is = sym c.freed-freed.ensures.freed;
-      are = λ counted. subst (λ (gs : List ClientLog).
-          IsTotals counted.core gs counted.trees totals)
-          c.deref.ensures.value (c.totals_of-totals.ensures.totals counted);
-      balance = c.totals_of-totals.ensures.balance;
-      all_cells = c.totals_of-totals.ensures.all_cells ∙ c.close-image.ensures.sizes.0
-          ∙ ap (λ (h : Shape). h.cells) shape;
-    } refl in
-    subst (λ (v : View Pass). Comes o answered logs image v totals)
-    (sym c.close-image.ensures.passes) whole
+      comes = comes o answered logs closed.image closed.passes
+          (closing o scripts store.heap.shape limits logs answered closed.passes opened.shape_is
+          c.requires.some c.requires.options c.client_limits-limits.ensures.limits left.taken many)
+          store.heap.shape shape is.ended is.shows closed.freed is.collected totals
+          record {
+            freed = closed.number_freed;
+            freed_is = is.number_freed_is;
+            are = λ counted. subst (λ (gs : List ClientLog).
+                IsTotals counted.core gs counted.trees totals)
+                c.deref.ensures.value (c.totals_of-totals.ensures.totals counted);
+            balance = c.totals_of-totals.ensures.balance;
+            all_cells = c.totals_of-totals.ensures.all_cells ∙ is.cells_are
+                ∙ ap (λ (h : Shape). h.cells) shape;
+          } refl;
+      fronts = left.fronts;
+      whole = left.whole;
+    }

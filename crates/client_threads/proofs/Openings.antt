@@ -3,9 +3,7 @@ use Rattle.std.proofs.Common.{◌≡◌, ◌≤◌, ℕ, List, refl, sym, subst}
 use Rattle.cell_words.specs.declared.fields.Field.{Field}
 use Rattle.doc_records.specs.Trees.{IsTreeNode, tree_of}
 use Rattle.client_history.specs.Spelled.{bare_is_empty, bare_is_node}
-use Rattle.heap_rule.specs.Shape.{Shape}
 use Rattle.heap_table.specs.Opening.{Opens}
-use Rattle.client_threads.specs.Opened.{store_shape}
 use Rattle.version_rule.specs.Opening.{first_rows, first_terms}
 use Rattle.version_rule.specs.Pass.{opening_pass}
 use Rattle.version_rule.specs.Versions.{HoldsVersions}
@@ -28,13 +26,3 @@ opens cells mutators keep rows is fewer least most =
             few = fewer;
           },
     )
-
--- the shape of the heap that is opened is that of a store's
-pub opened_shape : (cells stay : ℕ) (h : Shape) (mutators keep : ℕ) (rows : List (List Field))
-    → h ≡ record { cells = cells; mutators = mutators; setting = keep; first = rows }
-    → keep ≡ stay → rows ≡ first_rows → h ≡ store_shape cells mutators stay
-opened_shape cells stay h mutators keep rows is kept are =
-    subst (λ (first : List (List Field)). h
-    ≡ record { cells = cells; mutators = mutators; setting = stay; first = first }) are
-    (subst (λ (setting : ℕ). h
-    ≡ record { cells = cells; mutators = mutators; setting = setting; first = rows }) kept is)
