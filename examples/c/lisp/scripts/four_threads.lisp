@@ -1,4 +1,4 @@
-; options: --cells 4000
+; options: --cells 60000
 ; quick: 500
 ; Four threads add to one atom, a million times in all. Each addition is one compare and exchange,
 ; so none is lost.
