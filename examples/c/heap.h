@@ -97,9 +97,9 @@ heap_code heap_answer(heap_mut *m); /* the safe point: 4 ns, or a mark for each 
 size_t heap_held(heap_mut *m);      /* how many places it holds; 0 out or without a handle */
 size_t heap_room(heap_mut *m);      /* how many more it may hold; 0 out or without a handle */
 /* Keeps the first n places, the anchor's at least, and then `count` from `place` on, without the
- * anchor's; `place` is not looked at if count is 0. A frame notes heap_held at its entry, and at its
- * exit keeps (base, 0, 0), or (base, p, 1) to hand on a result; (heap_held(m), p, 1) copies place p
- * to the next one. BAD_PLACE, NO_ROOM. 6 ns */
+ * anchor's; `place` is not looked at if count is 0. A frame notes heap_held at its entry, and at
+ * its exit keeps (base, 0, 0), or (base, p, 1) to hand on a result; (heap_held(m), p, 1) copies
+ * place p to the next one. BAD_PLACE, NO_ROOM. 6 ns */
 heap_code heap_keep(heap_mut *m, size_t n, size_t place, size_t count);
 /* A new cell of n values, 5 at most, the other fields null. The safe point too. 1 place free, or
  * NO_ROOM; BAD_SIZE, BAD_VALUE, WAIT, FULL. 70 ns. make_at: and then heap_keep(m, keep, it, 1). */

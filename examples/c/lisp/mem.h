@@ -95,8 +95,8 @@ int mem_same(mem *m, value one, value other);
 value mem_bound(mem *m, value binding);
 value mem_next(mem *m, value binding);
 
-/* Symbols: one for each name. The first ones have the numbers 0, 1, 2 .. in order. A global value
- * is behind its symbol; 0: it has none. */
+/* Symbols: one for each name. The first ones have the numbers 0, 1, 2 .. in order. A symbol
+ * leads to its global value; mem_global answers 0 where it has none. */
 value mem_symbol(mem *m, const char *name, size_t length);
 static inline uint64_t symbol_number(uint64_t info) { return info % (UINT64_C(1) << 26); }
 value mem_name(mem *m, value symbol);

@@ -11,9 +11,10 @@ import os
 import sys
 
 sys.path.insert(0, os.path.join(os.path.dirname(os.path.abspath(__file__)), "../../../pictures"))
-from drawing import DARK, LIGHT, rect, style, svg, text
+from drawing import DARK, LIGHT, style, svg, text
 
 WIDE, HIGH, LEFT, TOP, MOST = 900, 220, 70, 50, 120
+NEWLINE = "\n"
 
 
 def main():
@@ -26,13 +27,13 @@ def main():
         sys.exit("no cycle ended")
     used = [made - freed for made, freed in cycles]
     step, floor = WIDE / len(used), TOP + HIGH
-    bars = [rect(LEFT + k * step, floor - HIGH * cells_used / cells, step * .7,
-                 HIGH * cells_used / cells, "use", f"cycle {k + 1}: {cells_used:,} cells")
-            for k, cells_used in enumerate(used)]
+    bars = [f"M{LEFT + k * step:.1f} {floor}v-{HIGH * cells_used / cells:.1f}h{step * .7:.1f}"
+            f"V{floor}z" for k, cells_used in enumerate(used)]
     parts = [text(LEFT, 20, "Cells in use at the end of each cycle", "title ink"),
              text(LEFT, 38, f"{len(used)} cycles, {cycles[-1][0]:,} cells made; most in use "
                   f"{max(used):,} of {cells:,}", "faint"),
-             f'<path d="M{LEFT} {TOP}h{WIDE}M{LEFT} {floor}h{WIDE}" class="edge"/>', *bars,
+             f'<path d="M{LEFT} {TOP}h{WIDE}M{LEFT} {floor}h{WIDE}" class="edge"/>',
+             f'<path d="{NEWLINE.join(bars)}" class="use"/>',
              text(8, TOP + 4, f"{cells:,}", "faint"), text(8, floor + 4, "0", "faint")]
     rules = style({}, {}, f".edge {{ stroke: {LIGHT['faint']}; stroke-width: .6; }} "
                   ".use { fill: #0b6bcb; } "

@@ -43,7 +43,7 @@ static int skip_blanks(interpreter *t, reader *r) {
     return c;
 }
 
-/* A byte of a text, behind its first quote: -1 at its end, which has to be there. */
+/* A byte of a text, after its first quote: -1 at its end, which has to be there. */
 static int text_byte(interpreter *t, reader *r) {
     int c = take(t, r);
     if (c == '"') return -1;

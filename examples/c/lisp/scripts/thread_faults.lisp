@@ -12,7 +12,7 @@
 (await (spawn 5))
 (await (spawn (lambda (x) x)))
 (await 5)
-; 63 threads at most run beside the first one. Those that wait hold their seats.
+; 63 threads at most run alongside the first one. Those that wait hold their seats.
 (define gate (atom nil))
 (define (waits) (if (deref gate) 1 (begin (yield) (waits))))
 (define (start n tasks) (if (= n 0) tasks (start (- n 1) (cons (spawn waits) tasks))))
