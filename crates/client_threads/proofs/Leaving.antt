@@ -80,7 +80,8 @@ module _ (heap : HeapId) (queue : FreeQueue) (l : Limits)
   answered : commands_of new.own.session.journal.log.entries ≡ take front.count script
   answered =
       front.went.commands
-      ∙ ap (λ (es : List Entry). commands_of es ++ take front.count script) ready.own.session.entries
+      ∙ ap (λ (es : List Entry). commands_of es ++ take front.count script)
+      ready.own.session.entries
 
   many : length new.own.session.journal.log.entries ≡ min front.count (length script)
   many =

@@ -31,7 +31,7 @@ module _ (count : ℕ) (joined : List (Place Pass)) (share : Share Pass)
           share_at = old.share_at;
           left = old.left;
         }
-        | inr behind ↦ let same : i ≡ count = omega (arith, below, behind) in record {
+        | inr above ↦ let same : i ≡ count = omega (arith, below, above) in record {
           log = log;
           log_at = at_last logs log i (omega (arith, many, same));
           share = share;
@@ -46,7 +46,7 @@ module _ (count : ℕ) (joined : List (Place Pass)) (share : Share Pass)
   rooms_push room had is = λ i below.
       elim (cases_lt i count) [
         | inl before ↦ had i before
-        | inr behind ↦ let same : i ≡ count = omega (arith, below, behind) in record {
+        | inr above ↦ let same : i ≡ count = omega (arith, below, above) in record {
           share = share;
           share_at = ap (λ (n : ℕ). get_elem? joined n) same ∙ at;
           room_is = is;

@@ -1,5 +1,6 @@
 -- The clients after their threads, of which all seats are joined and all logs kept.
-use Rattle.std.proofs.Common.{◌≡◌, ◌+◌, ℕ, suc, Bool, ◌||◌, true, false, List, [], ◌∷◌, ◌++◌, length}
+use Rattle.std.proofs.Common.{◌≡◌, ◌+◌, ℕ, suc, Bool, ◌||◌, true, false, List, [], ◌∷◌, ◌++◌}
+use Rattle.std.proofs.Common.{length}
 use Rattle.std.proofs.Common.{map, take, refl, sym, ◌∙◌, ap, subst, arith}
 use Rattle.std.specs.Prelude.{Vec}
 use Rattle.std.specs.List.{list_any}
@@ -135,7 +136,8 @@ module _ (heap : HeapId) (limits : ClientLimits) (scripts : List (Vec Command Gl
   module _ (clients : List (Worker Pass Client)) (done : AllDone heap limits scripts clients) where
     pub clients_over : AreOver heap clients
     clients_over =
-        all_so Done (λ (n : ℕ) (c : Worker Pass Client). IsOver heap n c.seat) (λ n c is. is.is_over) 0 clients
+        all_so Done (λ (n : ℕ) (c : Worker Pass Client). IsOver heap n c.seat)
+        (λ n c is. is.is_over) 0 clients
         done
 
     module _ (many : length clients ≡ length scripts) where
@@ -155,24 +157,27 @@ module _ (heap : HeapId) (limits : ClientLimits) (scripts : List (Vec Command Gl
           share_at = placed i its.one its.at;
           left = its.holds.left;
         };
-        rooms = λ i lt. let its = stands_at Done clients i (omega (arith, lt, many)) done in record {
-          share = share_of its.one.seat.me;
-          share_at = placed i its.one its.at;
-          room_is = its.holds.room;
-        };
+        rooms = λ i lt.
+            let its = stands_at Done clients i (omega (arith, lt, many)) done in record {
+              share = share_of its.one.seat.me;
+              share_at = placed i its.one its.at;
+              room_is = its.holds.room;
+            };
       }
 
       clients_fronts : AreFronts (map commands_in (map log_of (own_of clients)))
           (lists_of scripts)
       clients_fronts =
           fronts_of scripts clients many
-          (all_so Done (λ (n : ℕ) (c : Worker Pass Client). IsFront (script_of scripts n) c) (λ n c is. is.front) 0 clients done)
+          (all_so Done (λ (n : ℕ) (c : Worker Pass Client). IsFront (script_of scripts n) c)
+          (λ n c is. is.front) 0 clients done)
 
       clients_whole : list_any has_failed (own_of clients) ≡ false
           → map commands_in (map log_of (own_of clients)) ≡ lists_of scripts
       clients_whole =
           whole_of scripts clients many
-          (all_so Done (λ (n : ℕ) (c : Worker Pass Client). IsWhole (script_of scripts n) c) (λ n c is. is.whole) 0 clients done)
+          (all_so Done (λ (n : ℕ) (c : Worker Pass Client). IsWhole (script_of scripts n) c)
+          (λ n c is. is.whole) 0 clients done)
 
       -- with what was taken of them, by where the part of each stands
       pub have_left_at : (own : List Client) (logs : List ClientLog) (failed : Bool)

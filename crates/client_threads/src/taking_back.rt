@@ -6,8 +6,8 @@ ghost use Rattle.client_threads.specs.Taken.{has_failed, log_of};
 use crate::clients::Client;
 use doc_model::Log;
 
-/// Puts the logs of the clients into the list, in which there is room for them. It says whether some
-/// client stopped because memory ran out.
+/// Puts the logs of the clients into the list, in which there is room for them. It says whether
+/// some client stopped because memory ran out.
 pub fn take_logs(clients: Vec<Client>, logs: &mut Vec<Log>) -> bool
     requires empty { logs.old.items ≡ [] }
     requires room { length clients.items ≤ vec_capacity logs.old }

@@ -1,6 +1,6 @@
 -- The mutators of a heap and its collector, before they begin and when they are through.
 -- Source: this project's.
-use Rattle.std.specs.Prelude.{ℕ, ◌≡◌, true, false, List, [], length, map, min, Option}
+use Rattle.std.specs.Prelude.{ℕ, ◌≡◌, true, false, List, [], length, map, Option}
 use Rattle.beside_collector.specs.Duty.{duty_on}
 use Rattle.beside_collector.specs.Freed.{freed_by}
 use Rattle.beside_collector.specs.Places.{AllFrom}
@@ -72,9 +72,9 @@ module _ {P : Type 0} where
     pub still : IsStill before off.seat
     pub joined : AreJoined off.seat.me
 
--- how many of so many cells may wait for a look of the collector, of which none does
-abbrev pub opened_stack : ℕ → Stack
-opened_stack cells = record { room = min cells 65_536; cells = [] }
+-- how many cells may wait for a look of the collector, of which none does
+abbrev pub opened_stack : Stack
+opened_stack = record { room = 65_536; cells = [] }
 
 module _ {P T : Type 0} where
   -- The worker has a new seat with its opening pass, a pass of the hints, and of its own what was
@@ -92,7 +92,7 @@ module _ {P T : Type 0} where
     pub keeper : IsNewKeeper made.heap made.queue made.keeper
     pub workers : AllFrom (IsWorker opens made.heap made.queue room Made) 0 made.workers.items
     pub many : length made.workers.items ≡ shape.mutators
-    pub stack : made.keeper.stack ≡ opened_stack shape.cells
+    pub stack : made.keeper.stack ≡ opened_stack
 
   -- the mutator of each worker is over
   abbrev pub AreOver : HeapId → List (Worker P T) → Type 0

@@ -24,9 +24,8 @@ use heap_rule::Keeping;
 use std::alloc::Global;
 use std::sync::Wait;
 
-/// How many cells can wait for a look of the collector, if there are more cells than these. A cell
-/// that finds no place is found later.
-const MOST_MARKS: u32 = 65_536;
+/// How many cells can wait for a look of the collector. A cell that finds no place is found later.
+const MARKS: u32 = 65_536;
 
 /// A new heap with its queue of hints, its collector, and a worker for each mutator in the order of
 /// their numbers. It can't be dropped as a whole: whoever takes it apart has a heap to close.
@@ -65,7 +64,7 @@ pub fn open<P: Keeping, T: Drop, F: Fn(u32) -> Result<T, NoMemory>, R: Wait>(
 {
     let (heap, mut seat) = ColSeat::<P>::open(alloc, cells, mutators, setting, rows)?;
     let (queue, mut pass) = FreeQueue::open(alloc, rt, cells, rows.len() as u32)?;
-    let stack = MarkStack::with_room(alloc, cells.min(MOST_MARKS))?;
+    let stack = MarkStack::with_room(alloc, MARKS)?;
     let workers = split_workers(
         alloc, &heap, &queue, mutators, room, &own, &mut seat, &mut pass,
     )?;
