@@ -40,7 +40,6 @@ returns g c =
         };
         workers = c.in_ok-workers.ensures.workers;
         many = c.in_ok-workers.ensures.many;
-        stack = c.in_ok-stack.ensures.stack
-            ∙ ap (λ (n : ℕ). record { room = n; cells = [] }) c.min.ensures;
+        stack = c.in_ok-stack.ensures.stack;
       };
     }
