@@ -10,8 +10,7 @@ returns c =
     let count = c.count.result in
     let all : count ≡ kid_count c.args.self.now.kids =
     c.count.ensures ∙ ap (λ cs. kid_count (kids_of cs)) c.deref.ensures.value
-    ∙ ap (λ (t : DocTree). kid_count t.kids) c.self.view_is in
-    (
+    ∙ ap (λ (t : DocTree). kid_count t.kids) c.self.view_is in (
       λ is. omega (arith, all, leb-true MOST_CHILDREN count is),
       λ full. le-leb MOST_CHILDREN count (omega (arith, all)),
     )
