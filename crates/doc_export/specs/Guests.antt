@@ -11,8 +11,8 @@ use Rattle.mutator_threads.specs.Mutators.{IsNew}
 use Rattle.trails.specs.Asks.{InOrder}
 use Rattle.trails.specs.Marks.{Mark, marks_of}
 use Rattle.dump_text.specs.Dump.{dump_of}
-use Rattle.version_export.specs.declared.fault.DumpFault.{DumpFault}
-use Rattle.version_export.specs.declared.fault.DumpFault.TheVariants as faults
+use Rattle.doc_export.specs.declared.fault.DumpFault.{DumpFault}
+use Rattle.doc_export.specs.declared.fault.DumpFault.TheVariants as faults
 use Rattle.version_rule.specs.Fits.{Fits, HasTree}
 use Rattle.version_rule.specs.Pass.{Pass, opening_pass}
 use Rattle.version_store.specs.Calls.{version_asks}

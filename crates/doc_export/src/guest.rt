@@ -7,7 +7,9 @@ ghost use Rattle.version_rule.specs.Pass.{reading};
 ghost use Rattle.version_store.specs.Held.{IsHeld, root_at};
 ghost use Rattle.version_store.specs.Lasts.{IsSameMutator, LastsAcross};
 
+use crate::dumping::dump;
 use crate::ending::Ending;
+use crate::fault::DumpFault;
 use crate::waiting::await_end;
 use beside_collector::{come_in, leave};
 use client_history::Documents;
@@ -20,8 +22,7 @@ use mutator_seat::{MutSeat, Mutator};
 use outside::Gate;
 use std::alloc::Global;
 use std::sync::Wait;
-use version_export::{DumpFault, HeldVersion, dump};
-use version_store::{current, tree};
+use version_store::{HeldVersion, current, tree};
 
 /// The guest before its turn: the seat of its mutator, and a private heap for the readers of trees,
 /// which stays empty.

@@ -1,7 +1,7 @@
 //! The lines of a dump, as bytes.
 ghost use Rattle.std.specs.Prelude.{◌≡◌, ◌++◌, IfOk, OnOk};
 ghost use Rattle.dump_text.specs.Dump.{end_line, head_line};
-ghost use Rattle.version_export.specs.Lines.{line_of, path_behind, with_slash};
+ghost use Rattle.doc_export.specs.Lines.{line_of, path_behind, with_slash};
 
 use doc_tree::{Name, NoMemory, Text};
 use quoted_text::quoted;

@@ -1,7 +1,7 @@
 use Rattle.std.proofs.Common.{arith}
-use Rattle.version_export.proofs.Keeping.{keeps_calm, keeps_left, keeps_on}
-use Rattle.version_export.proofs.Looking.{looks_kept, looks_once, on_ok}
-use Rattle.version_export.proofs.walking.add_node.Goals as goal
+use Rattle.doc_export.proofs.Keeping.{keeps_calm, keeps_left, keeps_on}
+use Rattle.doc_export.proofs.Looking.{looks_kept, looks_once, on_ok}
+use Rattle.doc_export.proofs.walking.add_node.Goals as goal
 
 pub returns-clause-keeps : goal.returns-clause-keeps
 returns-clause-keeps c =

@@ -2,10 +2,10 @@ use Rattle.std.proofs.Common.{ap, arith, ◌∙◌}
 use Rattle.doc_tree.specs.Tree.{count}
 use Rattle.client_trees.specs.declared.at.NodeAt.TheVariants as at
 use Rattle.client_trees.specs.Nodes.{tree_at}
-use Rattle.version_export.proofs.Keeping.{keeps_left, keeps_on, tree_same}
-use Rattle.version_export.proofs.Looking.{looks_kept}
-use Rattle.version_export.proofs.Turns.{dumped}
-use Rattle.version_export.proofs.dumping.dump_tree.Goals as goal
+use Rattle.doc_export.proofs.Keeping.{keeps_left, keeps_on, tree_same}
+use Rattle.doc_export.proofs.Looking.{looks_kept}
+use Rattle.doc_export.proofs.Turns.{dumped}
+use Rattle.doc_export.proofs.dumping.dump_tree.Goals as goal
 
 pub returns-in_err-add_tree-clause-keeps : goal.returns-in_err-add_tree-clause-keeps
 returns-in_err-add_tree-clause-keeps c =

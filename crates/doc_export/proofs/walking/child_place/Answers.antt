@@ -1,7 +1,7 @@
 use Rattle.std.proofs.Common.{refl}
-use Rattle.version_export.proofs.Keeping.{keeps_left}
-use Rattle.version_export.proofs.Turns.{no_minor}
-use Rattle.version_export.proofs.walking.child_place.Goals as goal
+use Rattle.doc_export.proofs.Keeping.{keeps_left}
+use Rattle.doc_export.proofs.Turns.{no_minor}
+use Rattle.doc_export.proofs.walking.child_place.Goals as goal
 
 pub unreachable-requires : goal.unreachable-requires
 unreachable-requires c =

@@ -21,8 +21,8 @@ use Rattle.dump_text.proofs.Orders.{same_equal}
 use Rattle.version_rule.specs.Pass.{Pass}
 use Rattle.version_store.specs.Lasts.{marks}
 use Rattle.held_places.proofs.Going.{calm_trail}
-use Rattle.version_export.specs.Looks.{child_nodes, looks, nodes_of}
-use Rattle.version_export.specs.Still.{Stays}
+use Rattle.doc_export.specs.Looks.{child_nodes, looks, nodes_of}
+use Rattle.doc_export.specs.Still.{Stays}
 
 -- Trails.
 

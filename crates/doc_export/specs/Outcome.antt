@@ -1,8 +1,8 @@
 -- When there is no dump of a tree with so many nodes.
 -- Source: this project's own.
 use Rattle.std.specs.Prelude.{ℕ, ◌≡◌, ◌<◌, ◌≤◌}
-use Rattle.version_export.specs.declared.fault.DumpFault.{DumpFault}
-use Rattle.version_export.specs.declared.fault.DumpFault.TheVariants.{NoMemory, TooMany}
+use Rattle.doc_export.specs.declared.fault.DumpFault.{DumpFault}
+use Rattle.doc_export.specs.declared.fault.DumpFault.TheVariants.{NoMemory, TooMany}
 
 -- more than 10,000 nodes are too many, and that is told before memory is taken
 abbrev pub Refuses : ℕ → DumpFault → Type 0

@@ -20,16 +20,16 @@ use Rattle.version_store.specs.Calls.{Holds, StaysKnown}
 use Rattle.version_store.specs.Lasts.{LastsAcross, marks}
 use Rattle.held_places.proofs.Going.{known_then, many_cells, many_held}
 use Rattle.version_store.proofs.Lasting.{lasts_then}
-use Rattle.version_export.specs.Lines.{child_lines, line_of, lines_from, lines_of, path_behind}
-use Rattle.version_export.specs.Lines.{tree_lines, with_slash}
-use Rattle.version_export.specs.Looks.{looks, nodes_of}
-use Rattle.version_export.specs.Still.{Stays}
-use Rattle.version_export.specs.Walks.{Walks}
-use Rattle.version_export.proofs.Keeping.{cut_cells, cut_length, keeps_cut, keeps_fewer}
-use Rattle.version_export.proofs.Keeping.{keeps_lasts}
-use Rattle.version_export.proofs.Keeping.{keeps_on, keeps_then}
-use Rattle.version_export.proofs.Looking.{looks_grown, looks_kept, next_looks}
-use Rattle.version_export.proofs.Listing.{all_names, one_more, whole_dump}
+use Rattle.doc_export.specs.Lines.{child_lines, line_of, lines_from, lines_of, path_behind}
+use Rattle.doc_export.specs.Lines.{tree_lines, with_slash}
+use Rattle.doc_export.specs.Looks.{looks, nodes_of}
+use Rattle.doc_export.specs.Still.{Stays}
+use Rattle.doc_export.specs.Walks.{Walks}
+use Rattle.doc_export.proofs.Keeping.{cut_cells, cut_length, keeps_cut, keeps_fewer}
+use Rattle.doc_export.proofs.Keeping.{keeps_lasts}
+use Rattle.doc_export.proofs.Keeping.{keeps_on, keeps_then}
+use Rattle.doc_export.proofs.Looking.{looks_grown, looks_kept, next_looks}
+use Rattle.doc_export.proofs.Listing.{all_names, one_more, whole_dump}
 use Rattle.version_rule.specs.Versions.{is_fixed}
 
 -- the next of the names

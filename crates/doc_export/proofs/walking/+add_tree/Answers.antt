@@ -3,15 +3,15 @@ use Rattle.std.proofs.Common.{Some}
 use Rattle.client_trees.specs.declared.at.NodeAt.TheVariants as at
 use Rattle.client_trees.specs.Nodes.{tree_at}
 use Rattle.doc_tree.specs.Tree.{DocTree, child, height, names_of}
-use Rattle.version_export.specs.Lines.{with_slash}
-use Rattle.version_export.specs.Looks.{looks}
+use Rattle.doc_export.specs.Lines.{with_slash}
+use Rattle.doc_export.specs.Looks.{looks}
 use Rattle.version_store.specs.Lasts.{marks}
-use Rattle.version_export.proofs.Looking.{first_looks, looks_kept}
-use Rattle.version_export.proofs.Keeping.{keeps_left, keeps_on, many_all, tree_same}
-use Rattle.version_export.proofs.Turns.{child_lower, child_room, first_lines, none_turn}
-use Rattle.version_export.proofs.Turns.{some_turn, turn_keeps}
-use Rattle.version_export.proofs.walking.+add_tree.Goals as goal
-use Rattle.version_export.proofs.walking.+add_tree.Goals.{in-Some+in_ok-added-in-Some, in-None}
+use Rattle.doc_export.proofs.Looking.{first_looks, looks_kept}
+use Rattle.doc_export.proofs.Keeping.{keeps_left, keeps_on, many_all, tree_same}
+use Rattle.doc_export.proofs.Turns.{child_lower, child_room, first_lines, none_turn}
+use Rattle.doc_export.proofs.Turns.{some_turn, turn_keeps}
+use Rattle.doc_export.proofs.walking.+add_tree.Goals as goal
+use Rattle.doc_export.proofs.walking.+add_tree.Goals.{in-Some+in_ok-added-in-Some, in-None}
 
 pub returns-in_err-names-clause-keeps : goal.returns-in_err-names-clause-keeps
 returns-in_err-names-clause-keeps t c =

@@ -2,8 +2,8 @@ use Rattle.std.proofs.Common.{drop}
 use Rattle.client_trees.specs.declared.at.NodeAt.TheVariants as at
 use Rattle.client_trees.specs.Nodes.{tree_at}
 use Rattle.doc_tree.specs.Tree.{height}
-use Rattle.version_export.specs.Walks.{Walks}
-use Rattle.version_export.proofs.walking.+add_tree.Given as goal
+use Rattle.doc_export.specs.Walks.{Walks}
+use Rattle.doc_export.proofs.walking.+add_tree.Given as goal
 
 -- Each call is for a tree of smaller height.
 abbrev pub decreases-add_tree : goal.decreases-add_tree

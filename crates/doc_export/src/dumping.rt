@@ -6,9 +6,9 @@ ghost use Rattle.doc_records.specs.Trees.{tree_of};
 ghost use Rattle.doc_tree.specs.Tree.{count, height};
 ghost use Rattle.mutator_seat.specs.Bound.{held_cells};
 ghost use Rattle.dump_text.specs.Dump.{dump_of};
-ghost use Rattle.version_export.specs.Looks.{looks};
-ghost use Rattle.version_export.specs.Outcome.{Refuses};
-ghost use Rattle.version_export.specs.Still.{Stays};
+ghost use Rattle.doc_export.specs.Looks.{looks};
+ghost use Rattle.doc_export.specs.Outcome.{Refuses};
+ghost use Rattle.doc_export.specs.Still.{Stays};
 ghost use Rattle.version_rule.specs.Pass.{reading};
 ghost use Rattle.version_store.specs.Calls.{StaysKnown};
 ghost use Rattle.version_store.specs.Held.{IsHeld, root_at};
@@ -25,13 +25,13 @@ use std::alloc::Global;
 use version_store::{HeldVersion, tree};
 
 /// Places that a dump asks for: for the walk to each node, and for the readings there.
-pub const DUMP_PLACES: usize = 2 * CALL_PLACES;
+pub(crate) const DUMP_PLACES: usize = 2 * CALL_PLACES;
 
 /// The most nodes that a dump may have.
 const MOST: u64 = 10_000;
 
 /// The dump of a version. All that was held and known still is, and the private heap is as it was.
-pub fn dump(
+pub(crate) fn dump(
     alloc: Global,
     m: &mut Mutator<'_, Documents>,
     minor: &mut MinorHeap,

@@ -4,9 +4,9 @@ ghost use Rattle.std.specs.Option.{ForSome, option_map};
 ghost use Rattle.client_trees.specs.declared.at.NodeAt.TheVariants as at;
 ghost use Rattle.client_trees.specs.Nodes.{IsTreeAt, tree_at};
 ghost use Rattle.doc_tree.specs.Tree.{child as child_of_name, count, height};
-ghost use Rattle.version_export.specs.Lines.{line_of, tree_lines};
-ghost use Rattle.version_export.specs.Looks.{looks};
-ghost use Rattle.version_export.specs.Still.{Stays};
+ghost use Rattle.doc_export.specs.Lines.{line_of, tree_lines};
+ghost use Rattle.doc_export.specs.Looks.{looks};
+ghost use Rattle.doc_export.specs.Still.{Stays};
 ghost use Rattle.version_store.specs.Lasts.{marks};
 
 use crate::lines::{path_behind, push_line, with_slash};

@@ -7,10 +7,10 @@ use Rattle.doc_tree.specs.Tree.{DocTree, count}
 use Rattle.heap_rule.specs.declared.known.Known.{Known}
 use Rattle.version_store.specs.Held.{root_at}
 use Rattle.version_store.specs.Lasts.{marks}
-use Rattle.version_export.specs.Looks.{looks}
-use Rattle.version_export.proofs.Looking.{ok_then}
-use Rattle.version_export.proofs.Turns.{back_held, back_known, back_lasts, back_looks}
-use Rattle.version_export.proofs.dumping.dump.Goals as goal
+use Rattle.doc_export.specs.Looks.{looks}
+use Rattle.doc_export.proofs.Looking.{ok_then}
+use Rattle.doc_export.proofs.Turns.{back_held, back_known, back_lasts, back_looks}
+use Rattle.doc_export.proofs.dumping.dump.Goals as goal
 
 pub returns-clause-held : goal.returns-clause-held
 returns-clause-held c =

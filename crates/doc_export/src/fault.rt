@@ -1,12 +1,12 @@
 //! Why there is no dump.
 ghost use Rattle.std.specs.Prelude.{◌≡◌};
-ghost use Rattle.version_export.specs.declared.fault.DumpFault.TheVariants as faults;
+ghost use Rattle.doc_export.specs.declared.fault.DumpFault.TheVariants as faults;
 
 use doc_tree::NoMemory;
 
 /// Why a version was not dumped.
 #[derive(Clone, Copy, Debug, PartialEq, Eq)]
-pub enum DumpFault {
+pub(crate) enum DumpFault {
     /// the tree has so many nodes, which are more than a dump may have
     TooMany { count: u64 },
     NoMemory,

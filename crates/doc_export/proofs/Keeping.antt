@@ -33,7 +33,7 @@ use Rattle.held_places.proofs.Going.{calm_goes, cut_claims, cut_goes, cut_known,
 use Rattle.held_places.proofs.Going.{kept_known, known_below, known_then, many_cells, many_held}
 use Rattle.held_places.proofs.Going.{still_same}
 use Rattle.version_store.proofs.Lasting.{goes_same, lasts_by, same_then}
-use Rattle.version_export.specs.Still.{Stays}
+use Rattle.doc_export.specs.Still.{Stays}
 use Rattle.version_rule.specs.Versions.{is_fixed}
 
 -- One call after the other.

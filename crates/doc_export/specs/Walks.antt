@@ -6,9 +6,9 @@ use Rattle.minor_heap.specs.Nursery.{Nursery}
 use Rattle.mutator_seat.specs.Bound.{Bound}
 use Rattle.version_rule.specs.Pass.{Pass}
 use Rattle.version_store.specs.Lasts.{marks}
-use Rattle.version_export.specs.Lines.{lines_of, tree_lines}
-use Rattle.version_export.specs.Looks.{looks, nodes_of}
-use Rattle.version_export.specs.Still.{Stays}
+use Rattle.doc_export.specs.Lines.{lines_of, tree_lines}
+use Rattle.doc_export.specs.Looks.{looks, nodes_of}
+use Rattle.doc_export.specs.Still.{Stays}
 
 -- From the start of the walk over a tree: as much is held and known as then, and with the lines of
 -- the children of these names all lines are written. There was a look for each other node.

@@ -10,8 +10,8 @@ use Rattle.doc_tree.proofs.Rising.{less_turned}
 use Rattle.dump_text.specs.Dump.{dump_of, end_line, head_line, lines_below, path_text}
 use Rattle.dump_text.specs.Dump.{node_line}
 use Rattle.dump_text.proofs.Orders.{same_equal}
-use Rattle.version_export.specs.Lines.{before_of, child_lines, line_of, lines_from, lines_of}
-use Rattle.version_export.specs.Lines.{path_behind, tree_lines, with_slash}
+use Rattle.doc_export.specs.Lines.{before_of, child_lines, line_of, lines_from, lines_of}
+use Rattle.doc_export.specs.Lines.{path_behind, tree_lines, with_slash}
 
 -- By names.
 
