@@ -20,11 +20,15 @@ use Rattle.version_store.specs.Lasts.{IsSameMutator, marks}
 use Rattle.doc_export.specs.declared.guest.Copied.{Copied}
 use Rattle.doc_export.specs.declared.guest.Through.{Through}
 
+-- the most nodes that a dump may have, as in dump_text and version_export
+abbrev pub most_nodes : ℕ
+most_nodes = 10_000
+
 -- the bytes are the dump of the version with this number and this tree; there are none exactly
 -- where the tree has more nodes than a dump may have
 abbrev pub IsDumpOf : ℕ → DocTree → Option (Vec ℕ Global) → Type 0
-IsDumpOf version t None = 10_000 < count t
-IsDumpOf version t (Some bytes) = (count t ≤ 10_000) × (bytes.items ≡ dump_of version t)
+IsDumpOf version t None = most_nodes < count t
+IsDumpOf version t (Some bytes) = (count t ≤ most_nodes) × (bytes.items ≡ dump_of version t)
 
 -- By the pass and the trail of the mutator that tells of a version: it is the latest that was seen,
 -- and the anchor named its box. For every list of versions that fits the pass, the tree of that
