@@ -19,6 +19,7 @@ use crate::lines::{end, head};
 use crate::walking::add_tree;
 use client_history::{CALL_PLACES, Documents, WALK_PLACES};
 use client_trees::{NodeAt, count};
+use dump_text::MOST_NODES;
 use minor_heap::MinorHeap;
 use mutator_seat::Mutator;
 use std::alloc::Global;
@@ -26,9 +27,6 @@ use version_store::{HeldVersion, tree};
 
 /// Places that a dump asks for: for the walk to each node, and for the readings there.
 pub(crate) const DUMP_PLACES: usize = 2 * CALL_PLACES;
-
-/// The most nodes that a dump may have.
-const MOST: u64 = 10_000;
 
 /// The dump of a version. All that was held and known still is, and the private heap is as it was.
 pub(crate) fn dump(
@@ -42,7 +40,7 @@ pub(crate) fn dump(
     requires room { length m.old.seat.me.own.held + DUMP_PLACES ≤ m.old.seat.me.room }
     ensures dump { IfOk result
         (λ bytes. bytes.items ≡ dump_of v.number (tree_of (root_at m.old v.place))) }
-    ensures few { IfOk result (λ bytes. count (tree_of (root_at m.old v.place)) ≤ 10_000) }
+    ensures few { IfOk result (λ bytes. count (tree_of (root_at m.old v.place)) ≤ MOST_NODES) }
     ensures refused { IfErr result (Refuses (count (tree_of (root_at m.old v.place)))) }
     ensures looked { OnOk result (looks (marks m.old) + count (tree_of (root_at m.old v.place))
         ≤ looks (marks m.new)) }
@@ -76,7 +74,7 @@ fn dump_tree(
     ensures dump { IfOk result
         (λ bytes. bytes.items ≡ dump_of number (tree_at m.old minor.old (at.Shared root))) }
     ensures few { IfOk result
-        (λ bytes. count (tree_at m.old minor.old (at.Shared root)) ≤ 10_000) }
+        (λ bytes. count (tree_at m.old minor.old (at.Shared root)) ≤ MOST_NODES) }
     ensures refused { IfErr result
         (Refuses (count (tree_at m.old minor.old (at.Shared root)))) }
     ensures looked { OnOk result (looks (marks m.old)
@@ -85,7 +83,7 @@ fn dump_tree(
     ensures minor { minor.new ≡ minor.old }
 {
     let nodes = count(m, minor, NodeAt::Shared(root));
-    if nodes > MOST {
+    if nodes > MOST_NODES {
         return Err(DumpFault::TooMany { count: nodes });
     }
     let mut bytes = head(alloc, number)?;

@@ -15,7 +15,7 @@ use doc_tree::{EditFault, Name, NoMemory, Path, Text, Tree};
 use std::alloc::Global;
 
 /// A dump has at most this many nodes.
-pub(crate) const MOST_NODES: u64 = 10_000;
+pub const MOST_NODES: u64 = 10_000;
 
 /// What a line gives: a node more, or the end.
 #[derive(Drop)]

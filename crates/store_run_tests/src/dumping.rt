@@ -1,4 +1,4 @@
-//! Dumps alongside clients.
+//! Runs of clients alongside which a version is dumped.
 ghost use Rattle.std.specs.Prelude.{◌≤◌, length};
 
 use crate::scripts::scripts_of;

@@ -4,7 +4,7 @@ use Rattle.std.proofs.lemmas.List.Elements.{All-push}
 use Rattle.std.specs.Prelude.{All, Vec}
 use Rattle.std.specs.declared.alloc.Global.{Global}
 use Rattle.doc_model.specs.declared.command.Command.{Command}
-use Rattle.export_tests.proofs.scripts.scripts_of.Goals as goal
+use Rattle.store_run_tests.proofs.scripts.scripts_of.Goals as goal
 
 abbrev IsShort : Vec Command Global → Type 0
 IsShort script = length script.items ≤ 100_000

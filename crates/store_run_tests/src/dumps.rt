@@ -1,6 +1,6 @@
-//! Rows, worked out by hand.
+//! Dumps alongside clients: rows, worked out by hand.
+use crate::between::BetweenGate;
 use crate::dumping::dumped_of;
-use crate::gates::BetweenGate;
 use crate::scripts::repeated;
 use outside::{AfterGate, OpenGate};
 use std::alloc::Global;

@@ -1,6 +1,6 @@
 use Rattle.cell_words.specs.declared.fields.Field.TheVariants as field
-use Rattle.census_tests.proofs.Boxes.{two_boxes}
-use Rattle.census_tests.proofs.closed.version_as_root.Goals as goal
+use Rattle.cell_tests.proofs.Boxes.{two_boxes}
+use Rattle.cell_tests.proofs.closed.version_as_root.Goals as goal
 
 pub closed-requires-clause-boxes : goal.closed-requires-clause-boxes
 closed-requires-clause-boxes c =
