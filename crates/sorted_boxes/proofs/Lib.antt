@@ -8,4 +8,4 @@ pub mod Narrowing
 pub mod NewBoxes
 pub mod Picks
 pub mod Shown
-pub mod Sorts
+pub mod SortLists
