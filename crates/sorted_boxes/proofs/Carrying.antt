@@ -130,8 +130,8 @@ as_lasts v w place Records cell known is =
 
 -- Records that are known.
 
-pub known_there : (known : List Known) (place : ℕ) (t : Term) → known_at known place ≡ knows.Record t
-    → place < length known
+pub known_there : (known : List Known) (place : ℕ) (t : Term)
+    → known_at known place ≡ knows.Record t → place < length known
 known_there [] place t is = absurd cc
 known_there (k ∷ known) zero t is = omega arith
 known_there (k ∷ known) (suc place) t is =

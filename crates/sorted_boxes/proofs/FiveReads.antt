@@ -17,14 +17,6 @@ use Rattle.sorted_boxes.specs.Holding.{HoldsAs}
 use Rattle.sorted_boxes.specs.Sorts.{IsOfTheSort, SortList, holds_record, sort_as, sort_found}
 use Rattle.sorted_boxes.proofs.Holding.{same_then}
 
--- what one read leaves
-pub record Reads (place f : ℕ) (value : Value) (old : SortList) (a : Bound Sorting)
-    (new : SortList) (b : Bound Sorting) : Type 0 where
-  pub gave : Gave a place f value b
-  pub sort : IsOfTheSort new (sort_found old place f) value
-  pub same : SameBelow old.records new.records (length a.seat.me.own.held)
-  pub records : StillRecords a.seat.me.known b.seat.me.known
-
 -- after so many reads
 pub record ReadOn (n : ℕ) (old : SortList) (a : Bound Sorting) (new : SortList)
     (b : Bound Sorting) : Type 0 where
@@ -50,9 +42,9 @@ read_none sorts a = record {
   records = λ place t is. is;
 }
 
-pub read_then : (n m : ℕ) (one two three : SortList) (a b c : Bound Sorting)
+pub read_then : {n m : ℕ} {one two three : SortList} {a b c : Bound Sorting}
     → ReadOn n one a two b → ReadOn m two b three c → ReadOn (n + m) one a three c
-read_then n m one two three a b c first second = record {
+read_then {one = one} {two = two} {three = three} {a = a} {b = b} first second = record {
   more = let less = first.more in let more = second.more in omega (arith, less, more);
   few = let less = first.few in let few = second.few in omega (arith, less, few);
   room = second.room ∙ first.room;
@@ -62,57 +54,58 @@ read_then n m one two three a b c first second = record {
   records = λ place t is. second.records place t (first.records place t is);
 }
 
-module _ (place f : ℕ) (value : Value) (old new : SortList) (a b : Bound Sorting)
-    (reads : Reads place f value old a new b) where
-  longer : length b.seat.me.own.held
-      ≡ length a.seat.me.own.held + length (cells_found reads.gave.found)
-  longer = many_held a b (cells_found reads.gave.found) reads.gave.was_read.holds.held
+longer : (a b : Bound Sorting) (place f : ℕ) (value : Value) (gave : Gave a place f value b)
+    → length b.seat.me.own.held ≡ length a.seat.me.own.held + length (cells_found gave.found)
+longer a b place f value gave = many_held a b (cells_found gave.found) gave.was_read.holds.held
 
-  pub read_once : HoldsAs old a.seat.me → HoldsAs new b.seat.me → ReadOn 1 old a new b
-  read_once was is =
-      let more = longer in
-      let few = one_found reads.gave.found in
-      record {
-        more = omega (arith, more);
-        few = omega (arith, more, few);
-        room = reads.gave.was_read.goes.room;
-        boxes = is.serves.boxes ∙ ap (λ (p : Sorting). p.boxes) reads.gave.pass
-            ∙ sym was.serves.boxes;
-        same = reads.same;
-        records = reads.records;
-      }
+pub read_once : {place f : ℕ} {value : Value} {old new : SortList} {a b : Bound Sorting}
+    → Gave a place f value b
+    → SameBelow old.records new.records (length a.seat.me.own.held)
+    → StillRecords a.seat.me.known b.seat.me.known → HoldsAs old a.seat.me → HoldsAs new b.seat.me
+    → ReadOn 1 old a new b
+read_once {place = place} {f = f} {value = value} {a = a} {b = b} gave same records was is =
+    let more = longer a b place f value gave in
+    let few = one_found gave.found in
+    record {
+      more = omega (arith, more);
+      few = omega (arith, more, few);
+      room = gave.was_read.goes.room;
+      boxes = is.serves.boxes ∙ ap (λ (p : Sorting). p.boxes) gave.pass ∙ sym was.serves.boxes;
+      same = same;
+      records = records;
+    }
 
-  -- What it found is of the same sort by a later list, and so is the field by an earlier one.
-  module _ (n m : ℕ) (first last : SortList) (from to : Bound Sorting)
-      (before : ReadOn n first from old a) (after : ReadOn m new b last to)
-      (there : place < length from.seat.me.own.held) where
-    by_found : (w : Field) (sort : Sort)
-        → length b.seat.me.own.held ≡ length a.seat.me.own.held + length (cells_found w)
-        → IsOfTheSort new sort (value_found (length a.seat.me.own.held) w)
-        → IsOfTheSort last sort (value_found (length a.seat.me.own.held) w)
-    by_found field.Null sort long is = tt
-    by_found (field.Num k) sort long is = tt
-    by_found (field.Cell c) sort long is =
-        ap sort_as (after.same (length a.seat.me.own.held) false (omega (arith, long))) ∙ is
+-- What a read found is of the same sort by a later list, and so is its field by an earlier one.
+module _ {place f : ℕ} {value : Value} {old new : SortList} {a b : Bound Sorting}
+    (gave : Gave a place f value b) (sort : IsOfTheSort new (sort_found old place f) value)
+    {n m : ℕ} {first last : SortList} {from to : Bound Sorting}
+    (before : ReadOn n first from old a) (after : ReadOn m new b last to)
+    (there : place < length from.seat.me.own.held) where
+  by_found : (w : Field) (s : Sort)
+      → length b.seat.me.own.held ≡ length a.seat.me.own.held + length (cells_found w)
+      → IsOfTheSort new s (value_found (length a.seat.me.own.held) w)
+      → IsOfTheSort last s (value_found (length a.seat.me.own.held) w)
+  by_found field.Null s long is = tt
+  by_found (field.Num k) s long is = tt
+  by_found (field.Cell c) s long is =
+      ap sort_as (after.same (length a.seat.me.own.held) false (omega (arith, long))) ∙ is
 
-    found_is : sort_found old place f ≡ sort_found first place f
-    found_is =
-        ap (λ (record_there : Bool). if record_there then Records else sort_of old.boxes place f)
-        (before.same place false there)
-        ∙ ap (λ (boxes : ℕ). if holds_record first place then Records else sort_of boxes place f)
-        before.boxes
+  found_is : sort_found old place f ≡ sort_found first place f
+  found_is =
+      ap (λ (record_there : Bool). if record_there then Records else sort_of old.boxes place f)
+      (before.same place false there)
+      ∙ ap (λ (boxes : ℕ). if holds_record first place then Records else sort_of boxes place f)
+      before.boxes
 
-    pub sort_later : IsOfTheSort last (sort_found first place f) value
-    sort_later =
-        subst (λ (sort : Sort). IsOfTheSort last sort value) found_is
-        (subst (λ (v : Value). IsOfTheSort last (sort_found old place f) v)
-        (sym reads.gave.value_is)
-        (by_found reads.gave.found (sort_found old place f) longer
-        (subst (λ (v : Value). IsOfTheSort new (sort_found old place f) v) reads.gave.value_is
-        reads.sort)))
+  pub sort_later : IsOfTheSort last (sort_found first place f) value
+  sort_later =
+      subst (λ (s : Sort). IsOfTheSort last s value) found_is
+      (subst (λ (v : Value). IsOfTheSort last (sort_found old place f) v) (sym gave.value_is)
+      (by_found gave.found (sort_found old place f) (longer a b place f value gave)
+      (subst (λ (v : Value). IsOfTheSort new (sort_found old place f) v) gave.value_is sort)))
 
 -- what the next read needs
-module _ (n : ℕ) (old new : SortList) (a b : Bound Sorting) (on : ReadOn n old a new b) where
+module _ {n : ℕ} {old new : SortList} {a b : Bound Sorting} (on : ReadOn n old a new b) where
   pub there_still : (place : ℕ) → place < length a.seat.me.own.held
       → place < length b.seat.me.own.held
   there_still place lt = let more = on.more in omega (arith, more, lt)

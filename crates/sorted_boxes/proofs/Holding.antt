@@ -37,8 +37,8 @@ use Rattle.sorted_rule.specs.declared.sorting.Sorting.{Sorting}
 use Rattle.sorted_rule.proofs.Finding.{learned_finds, record_finds}
 use Rattle.sorted_boxes.specs.Calls.{Gave, KeepsPlaces}
 use Rattle.sorted_boxes.specs.Holding.{HoldsAs, IsAs}
-use Rattle.sorted_boxes.specs.Sorts.{IsOfTheSort, Serves, SortList, holds_record, sort_as, sort_found}
-use Rattle.sorted_boxes.specs.Sorts.{sort_in}
+use Rattle.sorted_boxes.specs.Sorts.{IsOfTheSort, Serves, SortList, holds_record, sort_as}
+use Rattle.sorted_boxes.specs.Sorts.{sort_found, sort_in}
 use Rattle.sorted_boxes.proofs.Carrying.{StillSettled, as_lasts, still_records}
 use Rattle.sorted_boxes.proofs.Giving.{known_as}
 use Rattle.sorted_boxes.proofs.SortLists.{box_in}
@@ -177,8 +177,8 @@ module _ (a b : Bound Sorting) (heap : b.heap ≡ a.heap) (table : b.seat.table 
         (known_of b.seat.me (length a.seat.me.own.held))
     newest_known c is =
         subst (λ (k : Known). KnownOfSort (sort_found sorts place f) k)
-        (sym (found_known no_field_is_fixed a.seat.me b.seat.me step.core step.lore step.mine place f
-        (finds.Field found) tells a.seat.me.pass step.new c (ap finds.Field is)))
+        (sym (found_known no_field_is_fixed a.seat.me b.seat.me step.core step.lore step.mine place
+        f (finds.Field found) tells a.seat.me.pass step.new c (ap finds.Field is)))
         (by_sort c is (holds_record sorts place) (at.each place there))
 
     -- The list has it at the next place.
@@ -238,5 +238,6 @@ begun_holds m inside held sorts serves = record {
     first_as : (place : ℕ) → place < length m.seat.me.own.held
         → IsAs m.seat.me place (sort_in sorts place)
     first_as zero lt =
-        subst (λ (sort : Sort). IsAs m.seat.me 0 sort) (sym (box_in sorts 0 serves.anchor)) anchor_is
+        subst (λ (sort : Sort). IsAs m.seat.me 0 sort) (sym (box_in sorts 0 serves.anchor))
+        anchor_is
     first_as (suc place) lt = absurd (omega (arith, lt, one))

@@ -128,7 +128,8 @@ module _ (b c : Bound Sorting) (n place count : ℕ) (p : Found)
       first_as old new same i lt is =
           subst (λ (sort : Sort). IsAs c.seat.me i sort) (sym (sort_below old new n i same lt))
           (as_lasts b.seat.me c.seat.me i (sort_in old i) (cell_before i lt)
-          (λ is_settled. subst (λ (k : Known). StillKnown no_field_is_fixed (known_of b.seat.me i) k)
+          (λ is_settled.
+          subst (λ (k : Known). StillKnown no_field_is_fixed (known_of b.seat.me i) k)
           (sym (known_before i lt)) (still_same no_field_is_fixed (known_of b.seat.me i))) is)
 
       pub first_records : KeepsRecords n b.seat.me.known c.seat.me.known

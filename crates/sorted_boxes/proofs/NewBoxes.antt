@@ -34,8 +34,8 @@ use Rattle.sorted_rule.specs.Sorts.{Boxes, Records, Sort, sort_of}
 use Rattle.sorted_rule.specs.declared.sorting.Sorting.{Sorting}
 use Rattle.sorted_boxes.specs.Calls.{Drops, KeepsRecords, Sealed}
 use Rattle.sorted_boxes.specs.Holding.{HoldsAs, HoldsNew, HoldsRaw, IsAs}
-use Rattle.sorted_boxes.specs.Sorts.{AreFit, AreValues, IsValue, Serves, SortList, is_fit, same_sort}
-use Rattle.sorted_boxes.specs.Sorts.{sort_in}
+use Rattle.sorted_boxes.specs.Sorts.{AreFit, AreValues, IsValue, Serves, SortList, is_fit}
+use Rattle.sorted_boxes.specs.Sorts.{same_sort, sort_in}
 use Rattle.sorted_boxes.proofs.AfterWrites.{settled_not_fresh}
 use Rattle.sorted_boxes.proofs.Carrying.{StillSettled, as_lasts, known_there, record_still}
 use Rattle.sorted_boxes.proofs.Carrying.{sort_settled, still_records}
@@ -217,7 +217,8 @@ module _ (b : Bound Sorting) (place : ℕ) (given : List Value) (sorts : SortLis
             let lt = record_before a b place raw.claimed p t is in
             let there : p < length a.seat.me.own.held =
             subst (λ (k : ℕ). p < k) raw.claimed.place_is lt in
-            record_still a n (new_still sorts a given raw.held raw_values fit place n makes) p t there
+            record_still a n (new_still sorts a given raw.held raw_values fit place n makes) p t
+            there
             (sym (claimed_same a b place raw.claimed p there) ∙ is)
 
 pub sealed_drops : (b n : Bound Sorting) (place : ℕ) (given : List Value)

@@ -1,7 +1,8 @@
 //! Coming in and going out, and claiming the cells that boxes are made of.
 //!
 //! A mutator that comes in holds the anchor alone.
-ghost use Rattle.std.specs.Prelude.{◌≡◌, ◌<◌, ◌+◌, ◌∷◌, ◌++◌, [], IfNone, IfSome, false, length, true};
+ghost use Rattle.std.specs.Prelude.{◌≡◌, ◌<◌, ◌+◌, ◌∷◌, ◌++◌, [], false, length, true};
+ghost use Rattle.std.specs.Prelude.{IfNone, IfSome};
 ghost use Rattle.mutator_seat.specs.Bound.{IsBound, bound, held_cells};
 ghost use Rattle.mutator_seat.specs.Claims.{Claimed, HasMode};
 ghost use Rattle.mutator_seat.specs.Stretches.{Calm};

@@ -1,5 +1,5 @@
-//! Showing a new box: it names itself in its first field, and is known as a box that others may know
-//! from then on. Then its first value stands there in the place of its name.
+//! Showing a new box: it names itself in its first field, and from then on is known as a box that
+//! others may know. Then its first value stands there in the place of its name.
 ghost use Rattle.std.specs.Prelude.{◌≡◌, ◌<◌, ◌≤◌, false, length, true};
 ghost use Rattle.std.specs.Bool.{OnFalse, OnTrue};
 ghost use Rattle.mutator_events.specs.declared.values.Value.TheVariants as values;

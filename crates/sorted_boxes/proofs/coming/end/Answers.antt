@@ -10,7 +10,8 @@ returns c =
     record {
       seat = c.end.ensures.seat;
       out = c.end.ensures.out;
-      serves = λ sorts serves. serves_on sorts c.args.seat.now.me c.end.new.seat.me room pass serves;
+      serves = λ sorts serves.
+          serves_on sorts c.args.seat.now.me c.end.new.seat.me room pass serves;
       pass = pass;
       room = room;
     }

@@ -29,7 +29,8 @@ returns c =
     let next = length was.seat.me.own.held in
     let is_record = c.finds_record.result in
     let is : with_set old next is_record ≡ c.set.new.self =
-    sym (c.set.ensures.set ∙ ap (λ (n : ℕ). with_set old n is_record) c.held_len-next.ensures.len) in
+    sym (c.set.ensures.set
+    ∙ ap (λ (n : ℕ). with_set old n is_record) c.held_len-next.ensures.len) in
     let serves = set_serves old next is_record was.seat.me at.some at.serves in
     let same = set_same old next is_record in
     let there : next < length old.records =

@@ -1,6 +1,7 @@
 use Rattle.std.proofs.Common.{◌∙◌}
 use Rattle.mutator_seat.specs.Bound.{bound}
-use Rattle.sorted_boxes.proofs.AfterWrites.{refused_keeps, refused_still, stored_keeps, stored_still}
+use Rattle.sorted_boxes.proofs.AfterWrites.{refused_keeps, refused_still, stored_keeps}
+use Rattle.sorted_boxes.proofs.AfterWrites.{stored_still}
 use Rattle.sorted_boxes.proofs.Carrying.{still_records}
 use Rattle.sorted_boxes.proofs.Giving.{box_open, may_overwrite, value_gives, value_named}
 use Rattle.sorted_boxes.proofs.Giving.{value_sealed}
@@ -40,7 +41,8 @@ returns-in-Ok c =
     record {
       seat = c.store.ensures.seat;
       held = holds_same was now keeps still c.args.sorts.now c.requires.held;
-      records = still_records was now still (c.held_len-held.ensures.known ∙ c.held_len-held.ensures.len);
+      records = still_records was now still
+          (c.held_len-held.ensures.known ∙ c.held_len-held.ensures.len);
       keeps = keeps;
       stored = stored;
       refused = tt;
@@ -59,7 +61,8 @@ returns-in-Err c =
     record {
       seat = c.store.ensures.seat;
       held = holds_same was now keeps still c.args.sorts.now c.requires.held;
-      records = still_records was now still (c.held_len-held.ensures.known ∙ c.held_len-held.ensures.len);
+      records = still_records was now still
+          (c.held_len-held.ensures.known ∙ c.held_len-held.ensures.len);
       keeps = keeps;
       stored = tt;
       refused = (moved.0, _, (moved.1, moved.2));
