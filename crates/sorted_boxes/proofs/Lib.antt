@@ -3,6 +3,7 @@ pub mod Again
 pub mod Carrying
 pub mod FiveReads
 pub mod Giving
+pub mod HeldCopies
 pub mod Holding
 pub mod Narrowing
 pub mod NewBoxes

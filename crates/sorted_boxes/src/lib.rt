@@ -12,10 +12,11 @@
 //! else can find it by its own name.
 //!
 //! Reading order: specs/Sorts, Holding, Calls; then `sorts`, `opening`, `placing`, `reading`,
-//! `writing`, `showing`, `making`, `coming`.
+//! `writing`, `showing`, `making`, `coming`, `copies`.
 #![tactic(auto)]
 
 pub mod coming;
+pub mod copies;
 pub mod making;
 pub mod opening;
 pub mod placing;

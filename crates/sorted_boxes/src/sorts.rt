@@ -86,7 +86,7 @@ impl Sorts {
     }
 
     /// The first places stay, and after them come so many from a place on.
-    pub(crate) fn keep(&mut self, first: usize, place: usize, count: usize)
+    pub fn keep(&mut self, first: usize, place: usize, count: usize)
         requires others { place + count ≤ length self.old.records }
         requires room { first + count ≤ length self.old.records }
         ensures boxes { self.new.boxes ≡ self.old.boxes }
