@@ -1,20 +1,16 @@
 //! What a mutator does for C: each function tests what it is given, and answers why it did nothing.
-ghost use Rattle.std.specs.Prelude.{◌≡◌, ◌≤◌, if◌then◌else◌, true};
+ghost use Rattle.std.specs.Prelude.{◌≡◌, if◌then◌else◌};
 ghost use Rattle.heap_c.specs.Calls.{ComesIn, GoesOut, KeepsChosen, MakesAt, MakesCell};
 ghost use Rattle.heap_c.specs.Calls.{ReachesSafePoint};
 ghost use Rattle.heap_c.specs.Holding.{IsMine};
 ghost use Rattle.heap_c.specs.declared.codes.Code.TheVariants as code;
 ghost use Rattle.mutator_seat.specs.Bound.{bound};
-ghost use Rattle.mutator_seat.specs.Claims.{HasMode};
-ghost use Rattle.sorted_boxes.specs.Calls.{KeepsPlaces};
 
-use crate::claiming::{Waiting, claim, look};
+use crate::claiming::{Waiting, claim};
 use crate::codes::Code;
 use crate::rule::Rule;
 use crate::sharing::Sharing;
 use crate::values::{FIELDS, FIRST, HeapVal, values_of};
-use cell_words::Control;
-use cell_words::modes::{next_status, requested};
 use heap_table::CellHeap;
 use mutator_events::MutSeat;
 use sorted_boxes::{coming, making, placing};
@@ -58,23 +54,6 @@ pub(crate) fn answer(heap: &CellHeap<Rule>, seat: &mut MutSeat<Rule>) -> Code
     }
     let _was_asked = placing::answer(heap, seat);
     Code::Ok
-}
-
-/// Looks before a cell is claimed, and answers the handshake that is asked for.
-fn look_or_answer(heap: &CellHeap<Rule>, seat: &mut MutSeat<Rule>) -> Control
-    requires mine { IsMine heap.now seat.old }
-    requires inside { seat.old.me.presence.inside ≡ true }
-    ensures mine { IsMine heap.now seat.new }
-    ensures mode { HasMode (bound heap.now seat.new) }
-    ensures keeps { KeepsPlaces (bound heap.now seat.old) (bound heap.now seat.new) }
-    ensures few { result.cycles ≤ 4000000000 }
-{
-    let control = look(heap, seat);
-    if requested(control.stage) != next_status(seat.status()) {
-        return control;
-    }
-    let _answered = placing::answer(heap, seat);
-    look(heap, seat)
 }
 
 /// Keeps the first n places, and behind them so many from a place on.
@@ -137,8 +116,7 @@ pub(crate) fn make(
     let Some(fields) = values_of(vals, seat.held_len()) else {
         return Err(Code::BadValue);
     };
-    let control = look_or_answer(heap, seat);
-    let place = claim(heap, seat, control, sharing, wait)?;
+    let place = claim(heap, seat, sharing, wait)?;
     if making::make(heap, seat, place, fields) {
         Ok(place)
     } else {
