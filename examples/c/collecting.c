@@ -23,7 +23,7 @@ static void opens_badly(heap_col *c, uint64_t *random) {
     heap_col none = HEAP_ZERO;
     uint32_t sizes[] = { 100, 2, 10, 5 };
     static const uint32_t bad[4][3] = { { 0, 4194305, UINT32_MAX }, { 0, 1048577, UINT32_MAX },
-                                        { 0, 1048577, UINT32_MAX }, { 6, 7, UINT32_MAX } };
+                                        { 0, 1048577, UINT32_MAX }, { 0, 6, UINT32_MAX } };
     ANSWERS(heap_open(100, 2, 10, 5, c), CODE(HEAP_NOT_ZERO));
     size_t which = (size_t)pick(random, 4);
     sizes[which] = bad[which][pick(random, 3)];

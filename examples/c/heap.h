@@ -20,6 +20,9 @@
  * share from the start; no field names it. The others begin at HEAP_FIRST. A call that hands out a
  * cell holds it at the next place. What is held, or reached from there or from the anchor, is not
  * freed.
+ * Of each cell but the anchor the first fields, as many as heap_open says, name cells like it, and
+ * the others records, of which there are none yet: null and numbers alone stand there. All fields
+ * of the anchor name cells.
  * Nanoseconds below are of one thread without a collector. */
 #ifndef HEAP_H
 #define HEAP_H
@@ -45,7 +48,8 @@ typedef enum {
     HEAP_WAIT = 5,       /* no cell is free now: answer, sleep, try again; or heap_make_wait */
     HEAP_MOVED = 6,      /* the field holds something else */
     HEAP_NOT_IN = 7,     /* the mutator is out */
-    HEAP_BAD_VALUE = 8,  /* tag above 2, number from 2^62 on, or no place from HEAP_FIRST on */
+    HEAP_BAD_VALUE = 8,  /* tag above 2, number from 2^62 on, no place from HEAP_FIRST on, or a cell
+                          * where the field names records */
     HEAP_IS_IN = 9,      /* the mutator is in already, or in at its end */
     HEAP_NO_HANDLE = 10, /* a handle that is zero: never opened, or ended */
     HEAP_FULL = 11,      /* no cell is free, and two whole cycles did not help; or off duty */
@@ -63,7 +67,7 @@ enum { HEAP_FIRST = 1, HEAP_FIELDS = 5, HEAP_LEAST_ROOM = 8, HEAP_PATIENCE = 8 }
 #define HEAP_ZERO { NULL }
 
 /* Opening. cells 1 to 4194304, mutators 1 to 1048576, stack (places of the mark stack) 1 to
- * 1048576, boxes (how many fields of a cell name boxes; the others will name records) 5 today.
+ * 1048576, boxes (how many fields of a cell name cells; the others will name records) 1 to 5.
  * Takes all memory: 56 bytes a cell, twice that while it works. The collector is off duty. ms */
 heap_code heap_open(uint32_t cells, uint32_t mutators, uint32_t stack, uint32_t boxes,
                     heap_col *out);

@@ -8,7 +8,7 @@ enum { MOST = 4, ROOM = 16, MOST_CYCLES = 8 };
 typedef struct {
     heap_col col;
     heap_mut m[MOST];
-    uint32_t cells, mutators;
+    uint32_t cells, mutators, boxes;
     uint64_t random;
 } small;
 
@@ -90,9 +90,31 @@ static void is_full(small *s, heap_mut *m, uint64_t *length) {
     is_whole(m, *length);
 }
 
+/* The heap is full. The first fields of a box name boxes, as do all of the anchor; others take no
+ * box. */
+static void is_sorted(const small *s, heap_mut *m) {
+    heap_val it = heap_ref(HEAP_FIRST), none = heap_null(), seven = heap_num(7);
+    for (size_t f = 2; f < HEAP_FIELDS; f++) {
+        int fits = f < s->boxes;
+        heap_val new_box[HEAP_FIELDS] = { none, none, none, none, none };
+        new_box[f] = it;
+        size_t at = 17;
+        GIVES(heap_make(m, new_box, HEAP_FIELDS, &at), fits ? HEAP_FULL : HEAP_BAD_VALUE);
+        GIVES(heap_write(m, HEAP_FIRST, f, it), fits ? HEAP_OK : HEAP_BAD_VALUE);
+        GIVES(heap_swap(m, HEAP_FIRST, f, it, seven), fits ? HEAP_OK : HEAP_MOVED);
+        GIVES(heap_swap(m, HEAP_FIRST, f, fits ? seven : none, it),
+              fits ? HEAP_OK : HEAP_BAD_VALUE);
+        GIVES(heap_write(m, HEAP_FIRST, f, none), HEAP_OK);
+        GIVES(heap_write(m, 0, f, it), HEAP_OK);
+        GIVES(heap_write(m, 0, f, none), HEAP_OK);
+        HOLDS(at == 17);
+    }
+}
+
 static void opens(small *s) {
     heap_mut none = HEAP_ZERO;
-    GIVES(heap_open(s->cells, s->mutators, 1 + (uint32_t)pick(&s->random, 4), 5, &s->col), HEAP_OK);
+    GIVES(heap_open(s->cells, s->mutators, 1 + (uint32_t)pick(&s->random, 4), s->boxes,
+                    &s->col), HEAP_OK);
     for (uint32_t i = 0; i < s->mutators; i++) {
         GIVES(heap_seat(&s->col, (uint32_t)pick(&s->random, HEAP_LEAST_ROOM), &s->m[i]),
               HEAP_BAD_SIZE);
@@ -126,12 +148,14 @@ static void one_heap(uint64_t seed) {
     uint64_t length = 0;
     s.cells = HEAP_FIRST + 1 + (uint32_t)pick(&s.random, 200);
     s.mutators = 1 + (uint32_t)pick(&s.random, MOST);
+    s.boxes = 2 + (uint32_t)pick(&s.random, 4);
     opens(&s);
     heap_mut *m = &s.m[pick(&s.random, s.mutators)];
     GIVES(heap_begin(m), HEAP_OK);
     GIVES(heap_begin(m), HEAP_IS_IN);
     HOLDS(grows(m, &length, s.cells) == HEAP_FULL); /* off duty */
     HOLDS(length == s.cells - HEAP_FIRST);
+    is_sorted(&s, m);
     for (int i = 0; i < 3; i++) {
         is_full(&s, m, &length);
         HOLDS(looked(&s).free_about == 0);

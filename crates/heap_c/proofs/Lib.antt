@@ -1,9 +1,9 @@
 pub mod Claims
 pub mod Crossing
-pub mod Keeping
 pub mod Making
 pub mod OfCollecting
 pub mod OfMine
 pub mod Owner
+pub mod Staying
 pub mod Steps
 pub mod Unsplit

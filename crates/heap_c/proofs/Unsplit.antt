@@ -1,6 +1,6 @@
 -- Which mutators have no seat yet: all at the opening, and one less after each split. And that a
 -- collector stays one that may be moved on.
-use Rattle.std.proofs.Common.{◌≡◌, ◌<◌, ◌+◌, ◌≢◌, ℕ, zero, suc, List, [], refl, sym, ◌∙◌, ap}
+use Rattle.std.proofs.Common.{◌≡◌, ◌<◌, ◌≤◌, ◌+◌, ◌≢◌, ℕ, zero, suc, List, [], refl, sym, ◌∙◌, ap}
 use Rattle.std.proofs.Common.{arith, replicate, subst, Option, Some}
 use Rattle.atomic_table.proofs.Lists.{set_else}
 use mathlib.Core.Option.{some}
@@ -42,10 +42,10 @@ one_less given old new is left n from below =
     ∙ left n (omega (arith, from)) (omega (arith, below, shape))
 
 -- a heap that was opened just now
-pub new_left : (held heap : HeapId) (w : Worked) → held ≡ heap
+pub new_left : (held heap : HeapId) (w : Worked) (boxes : ℕ) → held ≡ heap
     → w.seat ≡ record { table = heap.table; me = opening_view opening_pass heap.shape }
-    → w.stack.cells ≡ [] → heap.shape.setting ≡ 5 → IsKeptBy held w 0
-new_left held heap w same is empty five =
+    → w.stack.cells ≡ [] → heap.shape.setting ≡ boxes → 1 ≤ boxes → IsKeptBy held w 0 boxes
+new_left held heap w boxes same is empty setting least =
     let shape = ap (λ (s : SeatView Sorting). s.me.shape) is
     ∙ ap (λ (h : HeapId). h.shape) (sym same) in
     record {
@@ -62,7 +62,8 @@ new_left held heap w same is empty five =
             (collector_of held (record w { seat = s }))) (sym is) tt;
       };
       few = omega arith;
-      five = ap (λ (h : HeapId). h.shape.setting) same ∙ five;
+      setting = ap (λ (h : HeapId). h.shape.setting) same ∙ setting;
+      some = least;
       left = all_left w.seat (ap (λ (s : SeatView Sorting). s.me.places) is
           ∙ ap (λ (n : ℕ). replicate n places.Unsplit)
           (sym (ap (λ (s : SeatView Sorting). s.me.shape.mutators) is)));
@@ -112,31 +113,33 @@ split_worked heap given old new worked is stack heard =
     }
 
 -- one after a split
-pub keeps_on : (heap : HeapId) (given : ℕ) (old new : Worked) → IsKeptBy heap old given
+pub keeps_on : (heap : HeapId) (given boxes : ℕ) (old new : Worked)
+    → IsKeptBy heap old given boxes
     → new.seat ≡ record old.seat { me = split_view given old.seat.me }
     → new.stack ≡ old.stack → new.heard ≡ old.heard → given < heap.shape.mutators
-    → IsKeptBy heap new (given + 1)
-keeps_on heap given old new keeping is stack heard left = record {
+    → IsKeptBy heap new (given + 1) boxes
+keeps_on heap given boxes old new keeping is stack heard left = record {
   worked = split_worked heap given old new keeping.worked is stack heard;
   few = omega (arith, left);
-  five = keeping.five;
+  setting = keeping.setting;
+  some = keeping.some;
   left = one_less given old.seat new.seat is keeping.left;
 }
 
 -- the same of a collector with its parts in place
-split_of_some : (heap : HeapId) (works : Option Worked) (given : ℕ) (w : Worked)
-    → works ≡ Some w → IsKeeping heap works given → IsKeptBy heap w given
-split_of_some heap works given w is keeping =
-    subst (λ (o : Option Worked). IsKeeping heap o given) is keeping
+split_of_some : (heap : HeapId) (works : Option Worked) (given boxes : ℕ) (w : Worked)
+    → works ≡ Some w → IsKeeping heap works given boxes → IsKeptBy heap w given boxes
+split_of_some heap works given boxes w is keeping =
+    subst (λ (o : Option Worked). IsKeeping heap o given boxes) is keeping
 
-pub split_keeps : (heap : HeapId) (works : Option Worked) (given : ℕ) (w : Worked)
+pub split_keeps : (heap : HeapId) (works : Option Worked) (given boxes : ℕ) (w : Worked)
     (seat : SeatView Sorting) (stack : Stack) (heard : ℕ) (new : SeatView Sorting)
     → works ≡ Some w → w ≡ record { seat = seat; stack = stack; heard = heard }
-    → IsKeeping heap works given → new ≡ record seat { me = split_view given seat.me }
+    → IsKeeping heap works given boxes → new ≡ record seat { me = split_view given seat.me }
     → given < heap.shape.mutators
-    → IsKeptBy heap (record { seat = new; stack = stack; heard = heard }) (given + 1)
-split_keeps heap works given w seat stack heard new at is keeping split left =
-    keeps_on heap given (record { seat = seat; stack = stack; heard = heard })
+    → IsKeptBy heap (record { seat = new; stack = stack; heard = heard }) (given + 1) boxes
+split_keeps heap works given boxes w seat stack heard new at is keeping split left =
+    keeps_on heap given boxes (record { seat = seat; stack = stack; heard = heard })
     (record { seat = new; stack = stack; heard = heard })
-    (subst (λ (v : Worked). IsKeptBy heap v given) is
-    (split_of_some heap works given w at keeping)) split refl refl left
+    (subst (λ (v : Worked). IsKeptBy heap v given boxes) is
+    (split_of_some heap works given boxes w at keeping)) split refl refl left

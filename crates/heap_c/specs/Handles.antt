@@ -6,10 +6,9 @@ use Rattle.std.specs.Prelude.{ℕ, ◌≡◌, ◌≢◌, ◌<◌, ◌-◌, ◌�
 use Rattle.std.specs.Prelude.{Ok, Err, MatchOption, if◌then◌else◌, length, slice_get}
 use Rattle.cell_making.specs.Makes.{value_at}
 use Rattle.mutator_events.specs.declared.values.Value.{Value}
-use Rattle.mutator_seat.specs.Bound.{Bound}
-use Rattle.sorted_rule.specs.declared.sorting.Sorting.{Sorting}
 use Rattle.heap_c.specs.declared.codes.Code.{Code}
 use Rattle.heap_c.specs.declared.codes.Code.TheVariants as code
+use Rattle.heap_c.specs.Holding.{Held}
 use Rattle.heap_c.specs.declared.values.HeapVal.{HeapVal}
 use Rattle.heap_c.specs.Calls.{ComparesPlaces, MakesAt, MakesCell, ReadsAllFields, ReadsField}
 use Rattle.heap_c.specs.Refusing.{IsVal, held_of}
@@ -50,30 +49,30 @@ abbrev pub OfHandle : {A : Type 0} → (A → A → Code → Type 0) → Option 
 OfHandle Does old new c = OfHandleOr (Unit {0}) Does old new c
 
 -- how many places it holds, and how many more it may: none where it is out
-abbrev pub places_held : Option (Bound Sorting) → ℕ
+abbrev pub places_held : Option (Held) → ℕ
 places_held None = 0
-places_held (Some m) = if m.seat.me.presence.inside then held_of m else 0
+places_held (Some m) = if m.bound.seat.me.presence.inside then held_of m else 0
 
-abbrev pub places_free : Option (Bound Sorting) → ℕ
+abbrev pub places_free : Option (Held) → ℕ
 places_free None = 0
-places_free (Some m) = if m.seat.me.presence.inside then m.seat.me.room - held_of m else 0
+places_free (Some m) = if m.bound.seat.me.presence.inside then m.bound.seat.me.room - held_of m else 0
 
 -- What was handed out.
 
-abbrev pub GivesVal : (place f : ℕ) → (was given : HeapVal) → Bound Sorting → Bound Sorting
+abbrev pub GivesVal : (place f : ℕ) → (was given : HeapVal) → Held → Held
     → Code → Type 0
 GivesVal place f was given old new c =
     ((c ≡ code.Ok) × ((value : Value) × (IsVal given value
     × ReadsField old new place f (Ok value))))
     ⊎ ((given ≡ was) × ReadsField old new place f (Err c))
 
-abbrev pub GivesPlace : List HeapVal → (was given : ℕ) → Bound Sorting → Bound Sorting → Code
+abbrev pub GivesPlace : List HeapVal → (was given : ℕ) → Held → Held → Code
     → Type 0
 GivesPlace vals was given old new c =
     ((c ≡ code.Ok) × MakesCell old new vals (Ok given))
     ⊎ ((given ≡ was) × MakesCell old new vals (Err c))
 
-abbrev pub GivesSame : (one other : ℕ) → (was given : ℤ) → Bound Sorting → Bound Sorting → Code
+abbrev pub GivesSame : (one other : ℕ) → (was given : ℤ) → Held → Held → Code
     → Type 0
 GivesSame one other was given old new c =
     ((c ≡ code.Ok) × ((same : Bool) × ((given ≡ (if same then pos 1 else pos 0))
@@ -81,8 +80,8 @@ GivesSame one other was given old new c =
     ⊎ ((given ≡ was) × ComparesPlaces old new one other (Err c))
 
 -- the new cell's place, where it was kept
-abbrev pub GivesKept : (first : ℕ) → List HeapVal → (was given : ℕ) → Bound Sorting
-    → Bound Sorting → Code → Type 0
+abbrev pub GivesKept : (first : ℕ) → List HeapVal → (was given : ℕ) → Held
+    → Held → Code → Type 0
 GivesKept first vals was given old new c =
     MakesAt old new first vals c
     × (((c ≡ code.Ok) × (given ≡ first)) ⊎ ((c ≢ code.Ok) × (given ≡ was)))
@@ -92,7 +91,7 @@ abbrev pub AreVals : List HeapVal → List Value → Type 0
 AreVals vals given =
     (i : ℕ) → i < 5 → MatchOption (slice_get vals i) ⊥ (λ val. IsVal val (value_at given i))
 
-abbrev pub GivesAll : (place : ℕ) → (was given : List HeapVal) → Bound Sorting → Bound Sorting
+abbrev pub GivesAll : (place : ℕ) → (was given : List HeapVal) → Held → Held
     → Code → Type 0
 GivesAll place was given old new c =
     ((c ≡ code.Ok) × ((values : List Value) × (AreVals given values

@@ -17,11 +17,13 @@ pub record Worked : Type 0 where
   pub stack : Stack
   pub heard : ℕ
 
--- a heap, its collector's parts, and how many mutators have been given their seats
+-- a heap, its collector's parts, how many mutators have been given their seats, and how many fields
+-- of each box name boxes
 pub record Keeps : Type 0 where
   pub heap : HeapId
   pub works : Option Worked
   pub given : ℕ
+  pub boxes : ℕ
 
 -- the mutators from this number on have no seat yet
 abbrev pub AreLeft : ℕ → SeatView Sorting → Type 0
@@ -38,12 +40,13 @@ pub record IsWorked (heap : HeapId) (w : Worked) : Type 0 where
   pub bound : IsBound heap w.seat heap.shape.mutators w.stack
   pub steps : Steps w.heard (collector_of heap w)
 
-pub record IsKeptBy (heap : HeapId) (w : Worked) (given : ℕ) : Type 0 where
+pub record IsKeptBy (heap : HeapId) (w : Worked) (given boxes : ℕ) : Type 0 where
   pub worked : IsWorked heap w
   pub few : given ≤ heap.shape.mutators
-  pub five : heap.shape.setting ≡ 5
+  pub setting : heap.shape.setting ≡ boxes
+  pub some : 1 ≤ boxes
   pub left : AreLeft given w.seat
 
-abbrev pub IsKeeping : HeapId → Option Worked → ℕ → Type 0
-IsKeeping heap None given = ⊥
-IsKeeping heap (Some w) given = IsKeptBy heap w given
+abbrev pub IsKeeping : HeapId → Option Worked → (given boxes : ℕ) → Type 0
+IsKeeping heap None given boxes = ⊥
+IsKeeping heap (Some w) given boxes = IsKeptBy heap w given boxes

@@ -1,30 +1,35 @@
 -- Why a call does nothing: what each code says of the mutator that was called, and of what it was
 -- given. The words are those of heap.h.
 -- Source: this project's.
-use Rattle.std.specs.Prelude.{ℕ, ◌≡◌, ◌<◌, ◌≤◌, ◌+◌, ◌^◌, ◌⊎◌, false, List, length, slice_get}
+use Rattle.std.specs.Prelude.{ℕ, ◌≡◌, ◌<◌, ◌≤◌, ◌+◌, ◌^◌, ◌⊎◌, true, false, List, length, slice_get}
 use Rattle.std.specs.Prelude.{MatchOption}
 use Rattle.cell_making.specs.Makes.{value_at}
 use Rattle.mutator_events.specs.declared.values.Value.{Value}
 use Rattle.mutator_events.specs.declared.values.Value.TheVariants as values
-use Rattle.mutator_seat.specs.Bound.{Bound}
-use Rattle.sorted_rule.specs.declared.sorting.Sorting.{Sorting}
+use Rattle.sorted_boxes.specs.Sorts.{holds_record, is_fit}
+use Rattle.sorted_rule.specs.Sorts.{sort_of}
 use Rattle.heap_c.specs.declared.codes.Code.{Code}
 use Rattle.heap_c.specs.declared.codes.Code.TheVariants as code
 use Rattle.heap_c.specs.declared.values.HeapVal.{HeapVal}
+use Rattle.heap_c.specs.Holding.{Held}
 
-abbrev pub held_of : Bound Sorting → ℕ
-held_of m = length m.seat.me.own.held
+abbrev pub held_of : Held → ℕ
+held_of m = length m.bound.seat.me.own.held
 
-abbrev pub IsOut : Bound Sorting → Type 0
-IsOut m = m.seat.me.presence.inside ≡ false
+abbrev pub IsOut : Held → Type 0
+IsOut m = m.bound.seat.me.presence.inside ≡ false
 
 -- no field is there
 abbrev pub NoField : ℕ → Type 0
 NoField f = 5 ≤ f
 
 -- fewer places are free
-abbrev pub NoRoomFor : Bound Sorting → ℕ → Type 0
-NoRoomFor m places = m.seat.me.room < held_of m + places
+abbrev pub NoRoomFor : Held → ℕ → Type 0
+NoRoomFor m places = m.bound.seat.me.room < held_of m + places
+
+-- no box is there
+abbrev pub NoBox : Held → ℕ → Type 0
+NoBox m place = (held_of m ≤ place) ⊎ (holds_record m.sorts place ≡ true)
 
 -- these bytes of C's are this value, with so many places held
 abbrev pub Means : ℕ → HeapVal → Value → Type 0
@@ -62,11 +67,22 @@ NoValueAt held vals i = MatchOption (slice_get vals i) ⊥ (λ val. NoValue held
 abbrev pub AreMeant : ℕ → List HeapVal → List Value → Type 0
 AreMeant held vals given = (i : ℕ) → i < 5 → MeansAt held vals i (value_at given i)
 
-module _ (m : Bound Sorting) where
+-- a value that may not stand in the field
+abbrev pub IsUnfit : Held → (place f : ℕ) → HeapVal → Type 0
+IsUnfit m place f val = (value : Value) × (Means (held_of m) val value
+    × (is_fit m.sorts (sort_of m.sorts.boxes place f) value ≡ false))
+
+-- values of which one may not stand in its field of a new box
+abbrev pub AreUnfit : Held → List HeapVal → Type 0
+AreUnfit m vals = (given : List Value) × (AreMeant (held_of m) vals given
+    × ((i : ℕ) × ((i < 5)
+    × (is_fit m.sorts (sort_of m.sorts.boxes 1 i) (value_at given i) ≡ false))))
+
+module _ (m : Held) where
   abbrev pub NotKept : (n place count : ℕ) → Code → Type 0
   NotKept n place count code.NotIn = IsOut m
   NotKept n place count code.BadPlace = NoneToKeep (held_of m) n place count
-  NotKept n place count code.NoRoom = m.seat.me.room < n + count
+  NotKept n place count code.NoRoom = m.bound.seat.me.room < n + count
   NotKept n place count _ = ⊥
 
   abbrev pub NotRead : (place f : ℕ) → Code → Type 0
@@ -86,19 +102,19 @@ module _ (m : Bound Sorting) where
   -- but for `Moved`
   abbrev pub NotWritten : (place f : ℕ) → HeapVal → Code → Type 0
   NotWritten place f val code.NotIn = IsOut m
-  NotWritten place f val code.BadPlace = held_of m ≤ place
+  NotWritten place f val code.BadPlace = NoBox m place
   NotWritten place f val code.BadField = NoField f
   NotWritten place f val code.NoRoom = NoRoomFor m 1
-  NotWritten place f val code.BadValue = NoValue (held_of m) val
+  NotWritten place f val code.BadValue = NoValue (held_of m) val ⊎ IsUnfit m place f val
   NotWritten place f val _ = ⊥
 
   -- but for `Moved`
   abbrev pub NotSwapped : (place f : ℕ) → (was now : HeapVal) → Code → Type 0
   NotSwapped place f was now code.NotIn = IsOut m
-  NotSwapped place f was now code.BadPlace = held_of m ≤ place
+  NotSwapped place f was now code.BadPlace = NoBox m place
   NotSwapped place f was now code.BadField = NoField f
   NotSwapped place f was now code.BadValue =
-      NoValue (held_of m) was ⊎ NoValue (held_of m) now
+      NoValue (held_of m) was ⊎ (NoValue (held_of m) now ⊎ IsUnfit m place f now)
   NotSwapped place f was now _ = ⊥
 
   abbrev pub NotCompared : (one other : ℕ) → Code → Type 0
@@ -111,5 +127,5 @@ module _ (m : Bound Sorting) where
   NotMade vals code.NotIn = IsOut m
   NotMade vals code.BadSize = 5 < length vals
   NotMade vals code.NoRoom = NoRoomFor m 1
-  NotMade vals code.BadValue = (i : ℕ) × NoValueAt (held_of m) vals i
+  NotMade vals code.BadValue = ((i : ℕ) × NoValueAt (held_of m) vals i) ⊎ AreUnfit m vals
   NotMade vals _ = ⊥

@@ -1,11 +1,10 @@
 -- What the calls of the collector's handle answer, code by code.
 -- Source: this project's.
 use Rattle.std.specs.Prelude.{ℕ, ◌≡◌, ◌<◌, ◌≤◌, ◌⊎◌, Option, Some, None, IsSome}
-use Rattle.mutator_seat.specs.Bound.{Bound}
-use Rattle.sorted_rule.specs.declared.sorting.Sorting.{Sorting}
 use Rattle.heap_c.specs.Keeping.{Keeps}
 use Rattle.heap_c.specs.declared.codes.Code.{Code}
 use Rattle.heap_c.specs.declared.codes.Code.TheVariants as code
+use Rattle.heap_c.specs.Holding.{Held}
 
 -- of a call that needs no more than a handle
 abbrev pub when_there : Option Keeps → Code
@@ -20,7 +19,8 @@ StepSays (Some k) c = (c ≡ code.Ok) ⊎ (c ≡ code.Spent)
 -- the sizes that a heap may have
 abbrev pub IsSize : (cells mutators stack boxes : ℕ) → Type 0
 IsSize cells mutators stack boxes = (0 < cells) × (cells ≤ 4194304) × (0 < mutators)
-    × (mutators ≤ 1048576) × (0 < stack) × (stack ≤ 1048576) × (boxes ≡ 5)
+    × (mutators ≤ 1048576) × (0 < stack) × (stack ≤ 1048576)
+    × (0 < boxes) × (boxes ≤ 5)
 
 -- of an opening, with what the handle owned and owns
 abbrev pub Opens : (cells mutators stack boxes : ℕ) → (was given : Option Keeps) → Code → Type 0
@@ -34,7 +34,7 @@ Opens cells mutators stack boxes was given code.NoMemory =
 Opens cells mutators stack boxes was given _ = ⊥
 
 -- of a seat that is asked for
-abbrev pub Seats : (room : ℕ) → Keeps → (was given : Option (Bound Sorting)) → Code → Type 0
+abbrev pub Seats : (room : ℕ) → Keeps → (was given : Option (Held)) → Code → Type 0
 Seats room k was given code.Ok =
     (was ≡ None) × ((8 ≤ room) × ((k.given < k.heap.shape.mutators) × IsSome given))
 Seats room k was given code.NoSeat = (k.heap.shape.mutators ≤ k.given) × (given ≡ was)

@@ -1,20 +1,19 @@
 //! Claiming a cell: a few blocks are asked for, and their cells are tried. Nothing waits here.
-ghost use Rattle.std.specs.Prelude.{◌≡◌, ◌<◌, ◌≤◌, ◌+◌, IfErr, IfNone, IfOk, IfSome, length, true, ℕ};
-ghost use Rattle.heap_c.specs.Claiming.{FindsNone, HoldsOneMore, SaysNone};
+ghost use Rattle.std.specs.Prelude.{◌≡◌, ◌<◌, ◌≤◌, IfErr, IfNone, IfOk, IfSome, length, true};
+ghost use Rattle.heap_c.specs.Claiming.{FindsNone, SaysNone};
 ghost use Rattle.mutator_seat.specs.Bound.{IsBound, bound};
-ghost use Rattle.mutator_seat.specs.Claims.{HasMode};
-ghost use Rattle.sorted_boxes.specs.Calls.{KeepsPlaces};
-ghost use Rattle.sorted_boxes.specs.Holding.{HoldsAtLeast, HoldsOpen, HoldsRaw};
+ghost use Rattle.mutator_seat.specs.Claims.{Claimed, HasMode, Seeking};
+ghost use Rattle.mutator_seat.specs.Stretches.{Calm};
 
 use crate::codes::Code;
 use crate::rule::Rule;
 use crate::sharing::Sharing;
 use cell_words::Control;
+use cell_words::modes::{next_status, requested};
 use free_blocks::Span;
 use heap_table::CellHeap;
 use mutator_events::MutSeat;
 use mutator_seat::operations;
-use sorted_boxes::coming;
 
 /// In how many blocks a call looks for a cell before it answers that it found none.
 const BLOCKS_TRIED: u32 = 4;
@@ -37,17 +36,19 @@ pub(crate) struct Looks {
     pub(crate) next: u32,
 }
 
-/// Looks at the control, before cells are tried.
-pub(crate) fn look(heap: &CellHeap<Rule>, seat: &mut MutSeat<Rule>) -> Control
+/// Looks before a cell is claimed, and answers the handshake that is asked for.
+fn look_or_answer(heap: &CellHeap<Rule>, seat: &mut MutSeat<Rule>) -> Control
     requires seat { IsBound heap.now seat.old }
     requires inside { seat.old.me.presence.inside ≡ true }
     ensures seat { IsBound heap.now seat.new }
-    ensures mode { HasMode (bound heap.now seat.new) }
-    ensures opened { (least : ℕ) → HoldsAtLeast least seat.old.me
-        → HoldsAtLeast least seat.new.me }
-    ensures keeps { KeepsPlaces (bound heap.now seat.old) (bound heap.now seat.new) }
+    ensures none { FindsNone (bound heap.now seat.old) (bound heap.now seat.new) }
     ensures few { result.cycles ≤ 4000000000 }
 {
+    let control = operations::look_once(heap, seat);
+    if requested(control.stage) != next_status(seat.status()) {
+        return control;
+    }
+    let _answered = operations::answer(heap, seat);
     operations::look_once(heap, seat)
 }
 
@@ -60,23 +61,17 @@ fn try_cells(
     next: &mut u32,
 ) -> Option<usize>
     requires seat { IsBound heap.now seat.old }
-    requires opened { HoldsOpen seat.old.me }
+    requires inside { seat.old.me.presence.inside ≡ true }
     requires mode { HasMode (bound heap.now seat.old) }
     requires room { length seat.old.me.own.held < seat.old.me.room }
     ensures seat { IsBound heap.now seat.new }
-    ensures got { IfSome result (λ place. HoldsRaw (bound heap.now seat.new) place) }
-    ensures place { IfSome result (λ place. place ≡ length seat.old.me.own.held) }
-    ensures longer { IfSome result (λ place. length seat.new.me.own.held
-        ≡ length seat.old.me.own.held + 1) }
-    ensures pass { seat.new.me.pass ≡ seat.old.me.pass }
-    ensures room { seat.new.me.room ≡ seat.old.me.room }
-    ensures cells { IfSome result (λ place. HoldsOneMore (bound heap.now seat.old)
-        (bound heap.now seat.new)) }
+    ensures got { IfSome result (λ place.
+        Claimed (bound heap.now seat.old) place (bound heap.now seat.new)) }
     ensures none { IfNone result (FindsNone (bound heap.now seat.old) (bound heap.now seat.new)) }
 {
     let end = span.end.min(heap.cells());
     for cell in span.first..end {
-        if let Some(place) = coming::try_cell(heap, seat, cell) {
+        if let Some(place) = operations::try_cell(heap, seat, cell) {
             *next = cell + 1;
             return Some(place);
         }
@@ -92,18 +87,12 @@ fn try_block(
     next: &mut u32,
 ) -> Option<usize>
     requires seat { IsBound heap.now seat.old }
-    requires opened { HoldsOpen seat.old.me }
+    requires inside { seat.old.me.presence.inside ≡ true }
     requires mode { HasMode (bound heap.now seat.old) }
     requires room { length seat.old.me.own.held < seat.old.me.room }
     ensures seat { IsBound heap.now seat.new }
-    ensures got { IfSome result (λ place. HoldsRaw (bound heap.now seat.new) place) }
-    ensures place { IfSome result (λ place. place ≡ length seat.old.me.own.held) }
-    ensures longer { IfSome result (λ place. length seat.new.me.own.held
-        ≡ length seat.old.me.own.held + 1) }
-    ensures pass { seat.new.me.pass ≡ seat.old.me.pass }
-    ensures room { seat.new.me.room ≡ seat.old.me.room }
-    ensures cells { IfSome result (λ place. HoldsOneMore (bound heap.now seat.old)
-        (bound heap.now seat.new)) }
+    ensures got { IfSome result (λ place.
+        Claimed (bound heap.now seat.old) place (bound heap.now seat.new)) }
     ensures none { IfNone result (FindsNone (bound heap.now seat.old) (bound heap.now seat.new)) }
 {
     let Span { first, end } = span;
@@ -122,18 +111,12 @@ fn try_blocks(
     looks: &mut Looks,
 ) -> Option<usize>
     requires seat { IsBound heap.now seat.old }
-    requires opened { HoldsOpen seat.old.me }
+    requires inside { seat.old.me.presence.inside ≡ true }
     requires mode { HasMode (bound heap.now seat.old) }
     requires room { length seat.old.me.own.held < seat.old.me.room }
     ensures seat { IsBound heap.now seat.new }
-    ensures got { IfSome result (λ place. HoldsRaw (bound heap.now seat.new) place) }
-    ensures place { IfSome result (λ place. place ≡ length seat.old.me.own.held) }
-    ensures longer { IfSome result (λ place. length seat.new.me.own.held
-        ≡ length seat.old.me.own.held + 1) }
-    ensures pass { seat.new.me.pass ≡ seat.old.me.pass }
-    ensures room { seat.new.me.room ≡ seat.old.me.room }
-    ensures cells { IfSome result (λ place. HoldsOneMore (bound heap.now seat.old)
-        (bound heap.now seat.new)) }
+    ensures got { IfSome result (λ place.
+        Claimed (bound heap.now seat.old) place (bound heap.now seat.new)) }
     ensures none { IfNone result (FindsNone (bound heap.now seat.old) (bound heap.now seat.new)) }
 {
     for _tried in 0..BLOCKS_TRIED {
@@ -179,32 +162,25 @@ fn waits(control: Control, sharing: &Sharing, wait: &mut Waiting) -> Code
     }
 }
 
-/// Claims a cell of the next blocks in which one is thought free: its place.
+/// Claims a cell of the next blocks in which one is thought free: its place. A handshake that is
+/// asked for is answered first.
 pub(crate) fn claim(
     heap: &CellHeap<Rule>,
     seat: &mut MutSeat<Rule>,
-    control: Control,
     sharing: &Sharing,
     wait: &mut Waiting,
 ) -> Result<usize, Code>
     requires seat { IsBound heap.now seat.old }
-    requires opened { HoldsOpen seat.old.me }
-    requires mode { HasMode (bound heap.now seat.old) }
-    requires few { control.cycles ≤ 4000000000 }
+    requires inside { seat.old.me.presence.inside ≡ true }
     requires room { length seat.old.me.own.held < seat.old.me.room }
     ensures seat { IsBound heap.now seat.new }
-    ensures got { IfOk result (λ place. HoldsRaw (bound heap.now seat.new) place) }
-    ensures place { IfOk result (λ place. place ≡ length seat.old.me.own.held) }
-    ensures longer { IfOk result (λ place. length seat.new.me.own.held
-        ≡ length seat.old.me.own.held + 1) }
-    ensures pass { seat.new.me.pass ≡ seat.old.me.pass }
-    ensures room { seat.new.me.room ≡ seat.old.me.room }
-    ensures cells { IfOk result (λ place. HoldsOneMore (bound heap.now seat.old)
-        (bound heap.now seat.new)) }
-    ensures none { IfErr result (λ code. FindsNone (bound heap.now seat.old)
-        (bound heap.now seat.new)) }
+    ensures got { IfOk result (λ place.
+        Claimed (bound heap.now seat.old) place (bound heap.now seat.new)) }
+    ensures none { IfErr result (λ code.
+        Calm Seeking (bound heap.now seat.old) (bound heap.now seat.new)) }
     ensures codes { IfErr result SaysNone }
 {
+    let control = look_or_answer(heap, seat);
     match try_blocks(heap, seat, sharing, &mut wait.looks) {
         Some(place) => {
             wait.began = None;

@@ -8,6 +8,7 @@ use crate::rule::Rule;
 use crate::sharing::{Sharing, Unnoted};
 use crate::works::{Counts, How, Works, work};
 use cell_heap::{CellHeap, NoMemory};
+use sorted_boxes::Sorts;
 use std::alloc::Global;
 use std::marker::Model;
 use std::mem;
@@ -21,6 +22,8 @@ pub struct Collecting {
     /// there but for a moment within a call
     works: Option<Works>,
     given: u32,
+    /// how many fields of each box name boxes
+    boxes: u64,
     counts: Counts,
     /// whether the last move asked a mutator to answer
     asks: bool,
@@ -35,9 +38,14 @@ impl Model for Collecting {
 
     ghost coded = { Prim.hlevel (codes, term.the_row.coded) };
 
-    ghost view = { λ k. record { heap = k.heap.value; works = k.works; given = k.given } };
+    ghost view = { λ k. record {
+      heap = k.heap.value;
+      works = k.works;
+      given = k.given;
+      boxes = k.boxes;
+    } };
 
-    ghost invariant = { λ k. IsKeeping k.heap.value k.works k.given };
+    ghost invariant = { λ k. IsKeeping k.heap.value k.works k.given k.boxes };
 }
 
 impl Collecting {
@@ -46,8 +54,9 @@ impl Collecting {
         heap: Arc<CellHeap<Rule>, Global>,
         sharing: Arc<Sharing, Global>,
         works: Works,
+        boxes: u64,
     ) -> Collecting
-        requires keeping { IsKeeping heap.value (Some works) 0 }
+        requires keeping { IsKeeping heap.value (Some works) 0 boxes }
         ensures given { result.given ≡ 0 }
     {
         Collecting {
@@ -55,6 +64,7 @@ impl Collecting {
             sharing,
             works: Some(works),
             given: 0,
+            boxes,
             counts: Counts {
                 passes: 0,
                 scanned: 0,
@@ -86,9 +96,10 @@ impl Collecting {
         let Some(works) = &mut self.works else {
             return Err(NoMemory);
         };
+        let sorts = Sorts::with_room(alloc, self.boxes, room as usize)?;
         let seat = works.seat.split(alloc, &self.heap, self.given, room)?;
         self.given += 1;
-        Ok(Mine::new(heap, sharing, seat, start))
+        Ok(Mine::new(heap, sharing, seat, sorts, start))
     }
 
     /// Makes at most so many moves.

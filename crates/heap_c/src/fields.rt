@@ -1,10 +1,11 @@
 //! What a mutator does with fields for C: each function tests what it is given, and answers why it
 //! did nothing.
-ghost use Rattle.std.specs.Prelude.{◌≡◌, ◌<◌, ◌≤◌, length};
+ghost use Rattle.std.specs.Prelude.{◌≡◌, ◌<◌, ◌≤◌, ◌⊎◌, false, length, true};
+ghost use Rattle.std.specs.Bool.{OnFalse, OnTrue};
 ghost use Rattle.heap_c.specs.Calls.{ComparesPlaces, ReadsAllFields, ReadsField, SwapsField};
 ghost use Rattle.heap_c.specs.Calls.{WritesField};
-ghost use Rattle.heap_c.specs.Holding.{IsMine};
-ghost use Rattle.mutator_seat.specs.Bound.{bound};
+ghost use Rattle.heap_c.specs.Holding.{IsMine, held_by};
+ghost use Rattle.sorted_boxes.specs.Sorts.{holds_record};
 
 use crate::codes::Code;
 use crate::rule::Rule;
@@ -12,18 +13,19 @@ use crate::values::{FIELDS, FIRST, HeapVal, is_field, is_place, value_of};
 use heap_table::CellHeap;
 use mutator_events::MutSeat;
 use mutator_seat::Value;
-use sorted_boxes::{placing, reading, writing};
+use sorted_boxes::{Sorts, placing, reading, writing};
 
 /// Reads one field.
 pub(crate) fn read(
     heap: &CellHeap<Rule>,
     seat: &mut MutSeat<Rule>,
+    sorts: &mut Sorts,
     place: usize,
     field: usize,
 ) -> Result<Value, Code>
-    requires mine { IsMine heap.now seat.old }
-    ensures mine { IsMine heap.now seat.new }
-    ensures read { ReadsField (bound heap.now seat.old) (bound heap.now seat.new) place field
+    requires mine { IsMine heap.now seat.old sorts.old }
+    ensures mine { IsMine heap.now seat.new sorts.new }
+    ensures read { ReadsField (held_by heap.now seat.old sorts.old) (held_by heap.now seat.new sorts.new) place field
         result }
 {
     if !seat.is_in() {
@@ -38,19 +40,20 @@ pub(crate) fn read(
     if seat.room() < 1 {
         return Err(Code::NoRoom);
     }
-    Ok(reading::read(heap, seat, place, field))
+    Ok(reading::read(heap, seat, sorts, place, field))
 }
 
 /// Reads all five.
 pub(crate) fn read_all(
     heap: &CellHeap<Rule>,
     seat: &mut MutSeat<Rule>,
+    sorts: &mut Sorts,
     place: usize,
     five: usize,
 ) -> Result<[Value; 5], Code>
-    requires mine { IsMine heap.now seat.old }
-    ensures mine { IsMine heap.now seat.new }
-    ensures read { ReadsAllFields (bound heap.now seat.old) (bound heap.now seat.new) place five
+    requires mine { IsMine heap.now seat.old sorts.old }
+    ensures mine { IsMine heap.now seat.new sorts.new }
+    ensures read { ReadsAllFields (held_by heap.now seat.old sorts.old) (held_by heap.now seat.new sorts.new) place five
         result }
 {
     if !seat.is_in() {
@@ -65,26 +68,36 @@ pub(crate) fn read_all(
     if seat.room() < FIELDS {
         return Err(Code::NoRoom);
     }
-    Ok(reading::read_all(heap, seat, place))
+    Ok(reading::read_all(heap, seat, sorts, place))
+}
+
+/// Whether a box is held at this place, where so many are held.
+fn is_box(sorts: &Sorts, place: usize, held: usize) -> bool
+    ensures there { OnTrue result (place < held) }
+    ensures boxed { OnTrue result (holds_record sorts.now place ≡ false) }
+    ensures none { OnFalse result ((held ≤ place) ⊎ (holds_record sorts.now place ≡ true)) }
+{
+    place < held && !sorts.is_record(place)
 }
 
 /// Stores a value in a field, whatever stands there.
 pub(crate) fn write(
     heap: &CellHeap<Rule>,
     seat: &mut MutSeat<Rule>,
+    sorts: &Sorts,
     place: usize,
     field: usize,
     val: HeapVal,
 ) -> Code
-    requires mine { IsMine heap.now seat.old }
-    ensures mine { IsMine heap.now seat.new }
-    ensures wrote { WritesField (bound heap.now seat.old) (bound heap.now seat.new) place field val
+    requires mine { IsMine heap.now seat.old sorts.now }
+    ensures mine { IsMine heap.now seat.new sorts.now }
+    ensures wrote { WritesField (held_by heap.now seat.old sorts.now) (held_by heap.now seat.new sorts.now) place field val
         result }
 {
     if !seat.is_in() {
         return Code::NotIn;
     }
-    if !is_place(place, seat.held_len()) {
+    if !is_box(sorts, place, seat.held_len()) {
         return Code::BadPlace;
     }
     if !is_field(field) {
@@ -96,7 +109,10 @@ pub(crate) fn write(
     let Some(value) = value_of(val, seat.held_len()) else {
         return Code::BadValue;
     };
-    if writing::write(heap, seat, place, field, value) {
+    if !sorts.fits(place, field, value) {
+        return Code::BadValue;
+    }
+    if writing::write(heap, seat, sorts, place, field, value) {
         Code::Ok
     } else {
         Code::Moved
@@ -107,20 +123,21 @@ pub(crate) fn write(
 pub(crate) fn swap(
     heap: &CellHeap<Rule>,
     seat: &mut MutSeat<Rule>,
+    sorts: &Sorts,
     place: usize,
     field: usize,
     was: HeapVal,
     now: HeapVal,
 ) -> Code
-    requires mine { IsMine heap.now seat.old }
-    ensures mine { IsMine heap.now seat.new }
-    ensures swapped { SwapsField (bound heap.now seat.old) (bound heap.now seat.new) place field was
+    requires mine { IsMine heap.now seat.old sorts.now }
+    ensures mine { IsMine heap.now seat.new sorts.now }
+    ensures swapped { SwapsField (held_by heap.now seat.old sorts.now) (held_by heap.now seat.new sorts.now) place field was
         now result }
 {
     if !seat.is_in() {
         return Code::NotIn;
     }
-    if !is_place(place, seat.held_len()) {
+    if !is_box(sorts, place, seat.held_len()) {
         return Code::BadPlace;
     }
     if !is_field(field) {
@@ -132,7 +149,10 @@ pub(crate) fn swap(
     let Some(value) = value_of(now, seat.held_len()) else {
         return Code::BadValue;
     };
-    if writing::swap(heap, seat, place, field, expected, value) {
+    if !sorts.fits(place, field, value) {
+        return Code::BadValue;
+    }
+    if writing::swap(heap, seat, sorts, place, field, expected, value) {
         Code::Ok
     } else {
         Code::Moved
@@ -143,14 +163,16 @@ pub(crate) fn swap(
 pub(crate) fn is_same(
     heap: &CellHeap<Rule>,
     seat: &mut MutSeat<Rule>,
+    sorts: &Sorts,
     one: usize,
     other: usize,
 ) -> Result<bool, Code>
-    requires mine { IsMine heap.now seat.old }
-    ensures mine { IsMine heap.now seat.new }
-    ensures same { ComparesPlaces (bound heap.now seat.old) (bound heap.now seat.new) one other
+    requires mine { IsMine heap.now seat.old sorts.now }
+    ensures mine { IsMine heap.now seat.new sorts.now }
+    ensures same { ComparesPlaces (held_by heap.now seat.old sorts.now) (held_by heap.now seat.new sorts.now) one other
         result }
 {
+    let _ = sorts;
     if !seat.is_in() {
         return Err(Code::NotIn);
     }

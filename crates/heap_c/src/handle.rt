@@ -1,8 +1,7 @@
 //! A handle in the memory of C: one pointer to what it owns, or null.
 ghost use Rattle.std.specs.Prelude.{◌≡◌, MatchOption, None, Option, Some};
 ghost use Rattle.heap_c.specs.Owning.{mine_coded, owns_mine};
-ghost use Rattle.sorted_rule.specs.declared.sorting.Sorting.{Sorting};
-ghost use Rattle.mutator_seat.specs.Bound.{Bound};
+ghost use Rattle.heap_c.specs.Holding.{Held};
 
 use crate::mine::Mine;
 use crate::parts::Parts;
@@ -21,7 +20,7 @@ pub struct Opaque {
 pub struct HeapMut {
     ptr: *mut Opaque,
     alloc: Global,
-    pub ghost mine: { Option (Bound Sorting) } by { mine_coded },
+    pub ghost mine: { Option Held } by { mine_coded },
 }
 
 impl Model for HeapMut {

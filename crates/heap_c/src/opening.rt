@@ -27,8 +27,8 @@ const MOST_STACKED: u32 = 1_048_576;
 /// How many mutators it may have.
 const MOST_MUTATORS: u32 = 1_048_576;
 
-/// How many fields of a box name boxes.
-const BOXES: u64 = 5;
+/// How many fields of a box may name boxes: all of them.
+const MOST_BOXES: u32 = 5;
 
 /// How many places a mutator needs at least.
 const LEAST_ROOM: u32 = 8;
@@ -36,7 +36,7 @@ const LEAST_ROOM: u32 = 8;
 /// Whether a heap may be opened with these sizes.
 fn fits(cells: u32, mutators: u32, stack: u32, boxes: u32) -> bool
     ensures fits { IsTrue result ↔ ((0 < cells) × (cells ≤ 4194304) × (0 < mutators)
-        × (mutators ≤ 1048576) × (0 < stack) × (stack ≤ 1048576) × (boxes ≡ 5)) }
+        × (mutators ≤ 1048576) × (0 < stack) × (stack ≤ 1048576) × (0 < boxes) × (boxes ≤ 5)) }
 {
     0 < cells
         && cells <= MOST_CELLS
@@ -44,7 +44,8 @@ fn fits(cells: u32, mutators: u32, stack: u32, boxes: u32) -> bool
         && mutators <= MOST_MUTATORS
         && 0 < stack
         && stack <= MOST_STACKED
-        && boxes == 5
+        && 0 < boxes
+        && boxes <= MOST_BOXES
 }
 
 /// Where free cells may be in a new heap: anywhere but at the anchor.
@@ -57,24 +58,32 @@ fn shared(alloc: Global, cells: u32) -> Result<Arc<Sharing, Global>, NoMemory> {
 }
 
 /// A new heap with its collector's seat. The anchor is a box of nulls.
-fn opened(alloc: Global, cells: u32, mutators: u32, stack: u32) -> Result<Box<Collecting>, NoMemory>
+fn opened(
+    alloc: Global,
+    cells: u32,
+    mutators: u32,
+    stack: u32,
+    boxes: u32,
+) -> Result<Box<Collecting>, NoMemory>
     requires some { 0 < cells }
     requires few { cells ≤ 4194304 }
     requires some_stacked { 0 < stack }
     requires few_stacked { stack ≤ 1048576 }
+    requires some_boxes { 0 < boxes }
 {
+    let setting = u64::from(boxes);
     let stack = MarkStack::with_room(alloc, stack)?;
     let sharing = shared(alloc, cells)?;
     let null = Field::Null;
     let anchor = [null, null, null, null, null, Field::Num(2)];
-    let (heap, seat) = ColSeat::<Rule>::open(alloc, cells, mutators, BOXES, &[anchor])?;
+    let (heap, seat) = ColSeat::<Rule>::open(alloc, cells, mutators, setting, &[anchor])?;
     let works = Works {
         seat,
         stack,
         heard: 0,
     };
     match Arc::new(alloc, heap) {
-        Ok(heap) => match Box::new(alloc, Collecting::new(heap, sharing, works)) {
+        Ok(heap) => match Box::new(alloc, Collecting::new(heap, sharing, works, setting)) {
             Ok(made) => Ok(made),
             Err(_) => Err(NoMemory),
         },
@@ -121,7 +130,7 @@ fn open(alloc: Global, cells: u32, mutators: u32, stack: u32, boxes: u32, out: &
     if !fits(cells, mutators, stack, boxes) {
         return Code::BadSize;
     }
-    match opened(alloc, cells, mutators, stack) {
+    match opened(alloc, cells, mutators, stack, boxes) {
         Ok(made) => {
             out.set(made);
             Code::Ok

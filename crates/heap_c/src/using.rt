@@ -1,30 +1,31 @@
 //! What a mutator does for C: each function tests what it is given, and answers why it did nothing.
-ghost use Rattle.std.specs.Prelude.{◌≡◌, ◌≤◌, if◌then◌else◌, true};
+ghost use Rattle.std.specs.Prelude.{◌≡◌, ◌<◌, false, if◌then◌else◌, ℕ};
+ghost use Rattle.std.specs.Bool.{OnFalse, OnTrue};
+ghost use Rattle.cell_making.specs.Makes.{value_at};
 ghost use Rattle.heap_c.specs.Calls.{ComesIn, GoesOut, KeepsChosen, MakesAt, MakesCell};
 ghost use Rattle.heap_c.specs.Calls.{ReachesSafePoint};
-ghost use Rattle.heap_c.specs.Holding.{IsMine};
+ghost use Rattle.heap_c.specs.Holding.{IsMine, held_by};
 ghost use Rattle.heap_c.specs.declared.codes.Code.TheVariants as code;
-ghost use Rattle.mutator_seat.specs.Bound.{bound};
-ghost use Rattle.mutator_seat.specs.Claims.{HasMode};
-ghost use Rattle.sorted_boxes.specs.Calls.{KeepsPlaces};
+ghost use Rattle.sorted_boxes.specs.Sorts.{AreFit, is_fit};
+ghost use Rattle.sorted_rule.specs.Sorts.{sort_of};
 
-use crate::claiming::{Waiting, claim, look};
+use crate::claiming::{Waiting, claim};
 use crate::codes::Code;
 use crate::rule::Rule;
 use crate::sharing::Sharing;
 use crate::values::{FIELDS, FIRST, HeapVal, values_of};
-use cell_words::Control;
-use cell_words::modes::{next_status, requested};
 use heap_table::CellHeap;
 use mutator_events::MutSeat;
-use sorted_boxes::{coming, making, placing};
+use mutator_seat::Value;
+use sorted_boxes::{Sorts, coming, making, placing};
 
 /// Comes in.
-pub(crate) fn begin(heap: &CellHeap<Rule>, seat: &mut MutSeat<Rule>) -> Code
-    requires mine { IsMine heap.now seat.old }
-    ensures mine { IsMine heap.now seat.new }
-    ensures begun { ComesIn (bound heap.now seat.old) (bound heap.now seat.new) result }
+pub(crate) fn begin(heap: &CellHeap<Rule>, seat: &mut MutSeat<Rule>, sorts: &Sorts) -> Code
+    requires mine { IsMine heap.now seat.old sorts.now }
+    ensures mine { IsMine heap.now seat.new sorts.now }
+    ensures begun { ComesIn (held_by heap.now seat.old sorts.now) (held_by heap.now seat.new sorts.now) result }
 {
+    let _ = sorts;
     if seat.is_in() {
         return Code::IsIn;
     }
@@ -33,12 +34,13 @@ pub(crate) fn begin(heap: &CellHeap<Rule>, seat: &mut MutSeat<Rule>) -> Code
 }
 
 /// Goes out.
-pub(crate) fn end(heap: &CellHeap<Rule>, seat: &mut MutSeat<Rule>) -> Code
-    requires mine { IsMine heap.now seat.old }
-    ensures mine { IsMine heap.now seat.new }
+pub(crate) fn end(heap: &CellHeap<Rule>, seat: &mut MutSeat<Rule>, sorts: &Sorts) -> Code
+    requires mine { IsMine heap.now seat.old sorts.now }
+    ensures mine { IsMine heap.now seat.new sorts.now }
     ensures answer { result ≡ (if seat.old.me.presence.inside then code.Ok else code.NotIn) }
-    ensures ended { GoesOut (bound heap.now seat.old) (bound heap.now seat.new) result }
+    ensures ended { GoesOut (held_by heap.now seat.old sorts.now) (held_by heap.now seat.new sorts.now) result }
 {
+    let _ = sorts;
     if !seat.is_in() {
         return Code::NotIn;
     }
@@ -47,12 +49,13 @@ pub(crate) fn end(heap: &CellHeap<Rule>, seat: &mut MutSeat<Rule>) -> Code
 }
 
 /// The safe point.
-pub(crate) fn answer(heap: &CellHeap<Rule>, seat: &mut MutSeat<Rule>) -> Code
-    requires mine { IsMine heap.now seat.old }
-    ensures mine { IsMine heap.now seat.new }
+pub(crate) fn answer(heap: &CellHeap<Rule>, seat: &mut MutSeat<Rule>, sorts: &Sorts) -> Code
+    requires mine { IsMine heap.now seat.old sorts.now }
+    ensures mine { IsMine heap.now seat.new sorts.now }
     ensures answer { result ≡ (if seat.old.me.presence.inside then code.Ok else code.NotIn) }
-    ensures answered { ReachesSafePoint (bound heap.now seat.old) (bound heap.now seat.new) result }
+    ensures answered { ReachesSafePoint (held_by heap.now seat.old sorts.now) (held_by heap.now seat.new sorts.now) result }
 {
+    let _ = sorts;
     if !seat.is_in() {
         return Code::NotIn;
     }
@@ -60,34 +63,18 @@ pub(crate) fn answer(heap: &CellHeap<Rule>, seat: &mut MutSeat<Rule>) -> Code
     Code::Ok
 }
 
-/// Looks before a cell is claimed, and answers the handshake that is asked for.
-fn look_or_answer(heap: &CellHeap<Rule>, seat: &mut MutSeat<Rule>) -> Control
-    requires mine { IsMine heap.now seat.old }
-    requires inside { seat.old.me.presence.inside ≡ true }
-    ensures mine { IsMine heap.now seat.new }
-    ensures mode { HasMode (bound heap.now seat.new) }
-    ensures keeps { KeepsPlaces (bound heap.now seat.old) (bound heap.now seat.new) }
-    ensures few { result.cycles ≤ 4000000000 }
-{
-    let control = look(heap, seat);
-    if requested(control.stage) != next_status(seat.status()) {
-        return control;
-    }
-    let _answered = placing::answer(heap, seat);
-    look(heap, seat)
-}
-
 /// Keeps the first n places, and behind them so many from a place on.
 pub(crate) fn keep(
     heap: &CellHeap<Rule>,
     seat: &mut MutSeat<Rule>,
+    sorts: &mut Sorts,
     n: usize,
     place: usize,
     count: usize,
 ) -> Code
-    requires mine { IsMine heap.now seat.old }
-    ensures mine { IsMine heap.now seat.new }
-    ensures kept { KeepsChosen (bound heap.now seat.old) (bound heap.now seat.new) n place count
+    requires mine { IsMine heap.now seat.old sorts.old }
+    ensures mine { IsMine heap.now seat.new sorts.new }
+    ensures kept { KeepsChosen (held_by heap.now seat.old sorts.old) (held_by heap.now seat.new sorts.new) n place count
         result }
 {
     if !seat.is_in() {
@@ -99,7 +86,7 @@ pub(crate) fn keep(
         return Code::BadPlace;
     }
     if count == 0 {
-        placing::keep(heap, seat, n, 0, 0);
+        placing::keep(heap, seat, sorts, n, 0, 0);
         return Code::Ok;
     }
     if place < FIRST || held < place || held - place < count {
@@ -109,21 +96,35 @@ pub(crate) fn keep(
     if dropped < count && room < count - dropped {
         return Code::NoRoom;
     }
-    placing::keep(heap, seat, n, place, count);
+    placing::keep(heap, seat, sorts, n, place, count);
     Code::Ok
+}
+
+/// Whether each of five values may stand in its field of a new box.
+fn are_fit(sorts: &Sorts, fields: [Value; 5]) -> bool
+    ensures fit { OnTrue result (AreFit sorts.now fields) }
+    ensures unfit { OnFalse result ((i : ℕ) × (i < 5)
+        × (is_fit sorts.now (sort_of sorts.now.boxes 1 i) (value_at fields i) ≡ false)) }
+{
+    sorts.fits(1, 0, fields[0])
+        && sorts.fits(1, 1, fields[1])
+        && sorts.fits(1, 2, fields[2])
+        && sorts.fits(1, 3, fields[3])
+        && sorts.fits(1, 4, fields[4])
 }
 
 /// Makes a box with these fields. A handshake that is asked for is answered first.
 pub(crate) fn make(
     heap: &CellHeap<Rule>,
     seat: &mut MutSeat<Rule>,
+    sorts: &mut Sorts,
     sharing: &Sharing,
     wait: &mut Waiting,
     vals: &[HeapVal],
 ) -> Result<usize, Code>
-    requires mine { IsMine heap.now seat.old }
-    ensures mine { IsMine heap.now seat.new }
-    ensures made { MakesCell (bound heap.now seat.old) (bound heap.now seat.new) vals.now result }
+    requires mine { IsMine heap.now seat.old sorts.old }
+    ensures mine { IsMine heap.now seat.new sorts.new }
+    ensures made { MakesCell (held_by heap.now seat.old sorts.old) (held_by heap.now seat.new sorts.new) vals.now result }
 {
     if !seat.is_in() {
         return Err(Code::NotIn);
@@ -137,9 +138,11 @@ pub(crate) fn make(
     let Some(fields) = values_of(vals, seat.held_len()) else {
         return Err(Code::BadValue);
     };
-    let control = look_or_answer(heap, seat);
-    let place = claim(heap, seat, control, sharing, wait)?;
-    if making::make(heap, seat, place, fields) {
+    if !are_fit(sorts, fields) {
+        return Err(Code::BadValue);
+    }
+    let place = claim(heap, seat, sharing, wait)?;
+    if making::make(heap, seat, sorts, place, fields) {
         Ok(place)
     } else {
         Err(Code::Wait)
@@ -150,14 +153,15 @@ pub(crate) fn make(
 pub(crate) fn make_at(
     heap: &CellHeap<Rule>,
     seat: &mut MutSeat<Rule>,
+    sorts: &mut Sorts,
     sharing: &Sharing,
     wait: &mut Waiting,
     first: usize,
     vals: &[HeapVal],
 ) -> Code
-    requires mine { IsMine heap.now seat.old }
-    ensures mine { IsMine heap.now seat.new }
-    ensures made { MakesAt (bound heap.now seat.old) (bound heap.now seat.new) first vals.now
+    requires mine { IsMine heap.now seat.old sorts.old }
+    ensures mine { IsMine heap.now seat.new sorts.new }
+    ensures made { MakesAt (held_by heap.now seat.old sorts.old) (held_by heap.now seat.new sorts.new) first vals.now
         result }
 {
     if !seat.is_in() {
@@ -166,10 +170,10 @@ pub(crate) fn make_at(
     if first < FIRST || seat.held_len() < first {
         return Code::BadPlace;
     }
-    match make(heap, seat, sharing, wait, vals) {
+    match make(heap, seat, sorts, sharing, wait, vals) {
         Ok(place) => {
             let _room = seat.room();
-            placing::keep(heap, seat, first, place, 1);
+            placing::keep(heap, seat, sorts, first, place, 1);
             Code::Ok
         }
         Err(code) => code,

@@ -1,10 +1,10 @@
 //! Values as C has them.
 ghost use Rattle.std.specs.Prelude.{◌<◌, ◌≤◌, ◌≡◌, ◌⊎◌, IfSome, IsTrue, MatchOption, ℕ};
 ghost use Rattle.std.specs.Bool.{OnFalse, OnTrue};
-ghost use Rattle.heap_c.specs.Holding.{AreGood, IsGood};
 ghost use Rattle.heap_c.specs.Refusing.{AreMeant, IsVal, Means, MeansAt, NoField, NoValue};
 ghost use Rattle.heap_c.specs.Refusing.{NoValueAt};
 ghost use Rattle.mutator_events.specs.declared.values.Value.TheVariants as values;
+ghost use Rattle.sorted_boxes.specs.Sorts.{AreValues, IsValue};
 
 use mutator_seat::Value;
 
@@ -51,7 +51,7 @@ pub(crate) fn is_field(field: usize) -> bool
 
 /// The value that this is, where so many places are held.
 pub(crate) fn value_of(val: HeapVal, held: usize) -> Option<Value>
-    ensures good { IfSome result (λ value. IsGood held value) }
+    ensures good { IfSome result (λ value. IsValue held value) }
     ensures means { MatchOption result (NoValue held val) (λ value. Means held val value) }
 {
     if val.tag == NULL {
@@ -71,7 +71,7 @@ pub(crate) fn value_of(val: HeapVal, held: usize) -> Option<Value>
 
 /// The value that is a place, but for the anchor's.
 fn place_of(place: usize, held: usize) -> Option<Value>
-    ensures good { IfSome result (λ value. IsGood held value) }
+    ensures good { IfSome result (λ value. IsValue held value) }
     ensures place { MatchOption result ((place < 1) ⊎ (held ≤ place))
         (λ value. (value ≡ values.Held place) × ((1 ≤ place) × (place < held))) }
 {
@@ -84,7 +84,7 @@ fn place_of(place: usize, held: usize) -> Option<Value>
 
 /// The value at an index, or null behind the last one.
 fn value_at(vals: &[HeapVal], index: usize, held: usize) -> Option<Value>
-    ensures good { IfSome result (λ value. IsGood held value) }
+    ensures good { IfSome result (λ value. IsValue held value) }
     ensures means { MatchOption result (NoValueAt held vals.now index)
         (λ value. MeansAt held vals.now index value) }
 {
@@ -97,7 +97,7 @@ fn value_at(vals: &[HeapVal], index: usize, held: usize) -> Option<Value>
 
 /// The fields of a new cell, of which the first are given.
 pub(crate) fn values_of(vals: &[HeapVal], held: usize) -> Option<[Value; 5]>
-    ensures good { IfSome result (λ values. AreGood held values) }
+    ensures good { IfSome result (λ values. AreValues held values) }
     ensures means { MatchOption result ((i : ℕ) × NoValueAt held vals.now i)
         (λ values. AreMeant held vals.now values) }
 {

@@ -1,7 +1,6 @@
 use Rattle.std.proofs.Common.{◌≡◌, Option, Some, inl, refl, subst, sym}
-use Rattle.mutator_seat.specs.Bound.{Bound}
-use Rattle.sorted_rule.specs.declared.sorting.Sorting.{Sorting}
 use Rattle.heap_c.specs.Handles.{GivesAll, OfHandleOr}
+use Rattle.heap_c.specs.Holding.{Held}
 use Rattle.heap_c.specs.declared.codes.Code.TheVariants as code
 use Rattle.heap_c.proofs.calls.read_all.Goals as goal
 
@@ -10,7 +9,7 @@ returns-in-Ok c =
     let was = c.args.out.now in
     let given = c.give_five.new.out in
     record {
-      read = subst (λ (owned : Option (Bound Sorting)). OfHandleOr (given ≡ was)
+      read = subst (λ (owned : Option Held). OfHandleOr (given ≡ was)
           (λ old new answer. GivesAll c.args.place was given old new answer) owned
           (Some c.read_all.new.self) code.Ok) (sym c.in-Some.ensures.value)
           (inl (refl, (c.in-Ok.values, (c.give_five.ensures.given, c.in-Ok.ensures.read))));

@@ -1,6 +1,7 @@
 use Rattle.std.proofs.Common.{◌∷◌, [], arith, inl, refl}
 use Rattle.held_places.proofs.Going.{many_held}
 use Rattle.mutator_seat.specs.Bound.{bound}
+use Rattle.heap_c.specs.Holding.{held_by}
 use Rattle.heap_c.proofs.using.make_at.Goals as goal
 
 pub keep-requires-clause-kept : goal.keep-requires-clause-kept
@@ -32,8 +33,14 @@ returns-in-Ok-clause-made c =
       (
         c.in-Ok.place,
         (
-          bound c.args.heap.now c.make.new.seat,
-          (c.in-Ok.ensures.made, (c.in-Ok.ensures.made.1.0, c.keep.ensures.narrows)),
+          held_by c.args.heap.now c.make.new.seat c.make.new.sorts,
+          (
+            c.in-Ok.ensures.made,
+            (
+              c.in-Ok.ensures.made.1.0,
+              (c.keep.ensures.narrows, (c.keep.ensures.same, c.keep.ensures.moved)),
+            ),
+          ),
         ),
       ),
     )
