@@ -52,13 +52,15 @@ typedef enum {
     HEAP_NO_SEAT = 12,   /* all mutators were seated */
     HEAP_SPENT = 13,     /* 4,000,000,000 cycles were made */
     HEAP_BAD_SIZE = 14,  /* a number of cells, mutators, places, values .. out of range */
-    HEAP_NOT_ZERO = 15   /* `out` is a handle already */
+    HEAP_NOT_ZERO = 15,  /* `out` is a handle already */
+    HEAP_NO_RECORDS = 16, /* the private heap is full: heap_reserve or heap_share */
+    HEAP_PART = 17       /* some were shared; call again */
 } heap_code;
 
 typedef struct { void *p; } heap_mut;         /* a mutator's handle */
 typedef struct { void *p; } heap_col;         /* the collector's */
 typedef struct { uint64_t tag, n; } heap_val; /* HEAP_NULL; HEAP_NUM n; HEAP_REF, the cell at n */
-enum { HEAP_NULL = 0, HEAP_NUM = 1, HEAP_REF = 2 };
+enum { HEAP_NULL = 0, HEAP_NUM = 1, HEAP_REF = 2, HEAP_REC = 3 };
 enum { HEAP_FIRST = 1, HEAP_FIELDS = 5, HEAP_LEAST_ROOM = 8, HEAP_PATIENCE = 8 };
 #define HEAP_ZERO { NULL }
 
@@ -115,6 +117,38 @@ heap_code heap_read_all(heap_mut *m, size_t place, heap_val *out, size_t five);
 heap_code heap_write(heap_mut *m, size_t place, size_t field, heap_val v);
 heap_code heap_swap(heap_mut *m, size_t place, size_t field, heap_val was, heap_val now);
 heap_code heap_same(heap_mut *m, size_t one, size_t other, int *same); /* are they one cell? 5 ns */
+
+/* A private heap of so many records, and a stack of so many roots, for a mutator that is out. */
+heap_code heap_records(heap_mut *m, uint32_t records, uint32_t roots);
+/* A record. kinds: the tag of field i in bits 4i to 4i+3. Never moves anything. NO_RECORDS,
+ * BAD_VALUE (stale reference, a box, a number too large), SPENT */
+heap_code heap_new(heap_mut *m, uint64_t kinds, uint64_t a, uint64_t b, uint64_t c, uint64_t d,
+                   uint64_t e, uint64_t *out);
+/* A field, or all five, of a private record or of the cell at a place (box or shared record). A cell
+ * that is found is held at the next place (1 or 5 free ones, or NO_ROOM). */
+heap_code heap_get(heap_mut *m, heap_val of, size_t field, heap_val *out);
+heap_code heap_get_all(heap_mut *m, heap_val of, heap_val *out, size_t five);
+/* After OK so many heap_new move nothing, and so many places are free. It may move: the private
+ * records age once, and are shared after that; then the first `base` places stay, and the roots'
+ * cells are after them. WAIT, FULL, NO_ROOM, BAD_PLACE, BAD_SIZE, SPENT */
+heap_code heap_reserve(heap_mut *m, size_t base, uint32_t records, size_t places);
+/* The stack of roots: null, numbers, records of both kinds, boxes. A root moves with its record.
+ * NO_ROOM, BAD_VALUE, BAD_PLACE. pop: lets the newest n go. heap_roots: how many there are. */
+heap_code heap_push(heap_mut *m, heap_val v);
+heap_code heap_pop(heap_mut *m, size_t n);
+heap_code heap_root(heap_mut *m, size_t i, heap_val *out);
+heap_code heap_set(heap_mut *m, size_t i, heap_val v);
+size_t heap_roots(heap_mut *m);
+/* Shares what the roots reach, at most so many records a call, the oldest first. OK: all of it; the
+ * first `base` places stay, after them stand the roots' cells, the private heap is empty, all
+ * references are stale. PART: call again. WAIT, FULL, NO_ROOM, BAD_PLACE, SPENT */
+heap_code heap_share(heap_mut *m, size_t base, uint32_t most);
+/* The copy of one private record and of what it reaches, at a place: for heap_write, heap_swap and
+ * heap_make. Nothing moves. PART, WAIT, FULL, NO_ROOM, BAD_VALUE */
+heap_code heap_promote(heap_mut *m, heap_val rec, uint32_t most, size_t *place);
+/* Keeps the first n places, or as many more as private records, their copies and roots name.
+ * (heap_keep answers BAD_PLACE where it would let such a place go.) */
+heap_code heap_release(heap_mut *m, size_t n);
 
 #ifdef __cplusplus
 }

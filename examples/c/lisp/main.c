@@ -104,8 +104,8 @@ static void opens(session *s) {
     interpreter *t = s->t;
     value list = nil();
     size_t n = 0;
-    s->reserve = mem_atom(t->m, nil());
     evaluator_opens(t);
+    s->reserve = mem_atom(t->m, nil());
     t->truth = mem_symbol(t->m, "t", 1);
     builtins_open(t);
     define(t, "t", t->truth);
@@ -119,7 +119,7 @@ static void opens(session *s) {
 static void *run(void *given) {
     session *s = given;
     reader r = { .file = s->file, .prompt = s->prompt, .row = 1, .column = 1 };
-    if (!mem_enter(s->t->m, NULL) || setjmp(s->t->top) != 0) {
+    if (!mem_enter(s->t->m) || setjmp(s->t->top) != 0) {
         fprintf(stderr, "lisp: the heap has too few cells\n");
         exit(2);
     }
