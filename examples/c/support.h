@@ -26,9 +26,11 @@ typedef struct {
     heap_col col;
     heap_spot *spots;
     size_t count;
-    uint32_t moves;     /* in a step */
+    uint32_t boxes;          /* 0: all five */
+    uint32_t records, roots; /* of each private heap, if there are any */
+    uint32_t moves;          /* in a step */
     atomic_int over;
-    atomic_uint cycles; /* as heap_look tells, after each cycle */
+    atomic_uint cycles;      /* as heap_look tells, after each cycle */
     pthread_t thread;
 } collector;
 
@@ -59,8 +61,12 @@ static inline void join(pthread_t thread) { HOLDS(pthread_join(thread, NULL) == 
 
 /* Opens a heap with a seat for each spot, and starts the collector's thread. */
 static inline void collector_starts(collector *c, uint32_t cells, uint32_t room) {
-    MUST(heap_open(cells, (uint32_t)c->count, 65536, 5, &c->col));
-    for (size_t i = 0; i < c->count; i++) MUST(heap_seat(&c->col, room, &c->spots[i].m));
+    uint32_t boxes = c->boxes ? c->boxes : HEAP_FIELDS;
+    MUST(heap_open(cells, (uint32_t)c->count, 65536, boxes, &c->col));
+    for (size_t i = 0; i < c->count; i++) {
+        MUST(heap_seat(&c->col, room, &c->spots[i].m));
+        if (c->records) MUST(heap_records(&c->spots[i].m, c->records, c->roots));
+    }
     MUST(heap_duty(&c->col, 1));
     c->moves = 500;
     c->thread = start(collector_runs, c);

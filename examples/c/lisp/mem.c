@@ -14,6 +14,7 @@ enum { MORE = 4 };                                              /* of a text */
 enum { VALUE = 1, NEXT = 2 };                                   /* of a binding */
 enum { BOXES = 3, LEFT = 0, RIGHT = 1, HELD = 3, OUTCOME = 4 }; /* of a box */
 enum { SYMBOLS = 0, NUMBERED = 1, TREES = 2 }; /* fields of the anchor, a seat's first slots */
+enum { CACHED = 256 };                         /* and the slots after these */
 enum { STATES = 32 };
 
 /* A seat's private heap has so many records. Its places are for the cells of slots, for what was
@@ -23,13 +24,16 @@ enum { RECORDS = 64 };
 #else
 enum { RECORDS = 4096 };
 #endif
-enum { BASE = HEAP_FIRST, SLICE = 1000, LEAST_READ = 64, MOST_READ = 6 * RECORDS };
-enum { ROOM = 2 * MEM_SLOTS + 8 * RECORDS };
+enum { BASE = HEAP_FIRST, LEAST_READ = 64, MOST_READ = 6 * RECORDS };
+enum { ROOM = 3 * MEM_SLOTS + 8 * RECORDS };
 
 struct mem {
     heap_spot spot;
-    int has_records; /* it has a private heap */
-    int has_copies;  /* some of its private records may have been promoted */
+    size_t top;              /* how many slots are taken */
+    size_t read;             /* how many cells were read since private records were shared */
+    uint64_t cached[CACHED]; /* 1 more than the number whose box is in the slot, or 0 */
+    int has_records;         /* it has a private heap */
+    int has_copies;          /* some of its private records may have been promoted */
     void (*handler)(void *owner, mem_fault fault);
     void *owner;
 #ifdef MEM_CHECK
@@ -66,7 +70,7 @@ static void ask(mem *m, heap_code code, const char *call, int line) {
 static heap_val plain(mem *m, value v) {
     heap_val it = { v.tag, v.n };
 #ifdef MEM_CHECK
-    if (v.tag == CELL && (v.n >= heap_roots(&m->spot.m) || m->stamps[v.n] != v.stamp)) {
+    if (v.tag == CELL && (v.n >= m->top || m->stamps[v.n] != v.stamp)) {
         fprintf(stderr, "a value is used whose slot %zu was let go\n", (size_t)v.n);
         abort();
     }
@@ -86,13 +90,12 @@ static value in_slot(mem *m, size_t slot) {
 }
 
 static value taken(mem *m, heap_val v) {
-    size_t slot = heap_roots(&m->spot.m);
     if (v.tag != HEAP_REF && v.tag != HEAP_REC) return (value){ .tag = v.tag, .n = v.n };
     ASK(m, heap_push(&m->spot.m, v));
 #ifdef MEM_CHECK
-    m->stamps[slot] = ++m->last;
+    m->stamps[m->top] = ++m->last;
 #endif
-    return in_slot(m, slot);
+    return in_slot(m, m->top++);
 }
 
 /* The collector's thread. A cycle begins if an eighth of the blocks that had free cells after the
@@ -201,13 +204,18 @@ int mem_enter(mem *m) {
     if (!m->has_records && heap_records(&m->spot.m, RECORDS, MEM_SLOTS) != HEAP_OK) return 0;
     m->has_records = 1;
     m->has_copies = 0;
+    memset(m->cached, 0, sizeof m->cached);
     MUST(heap_begin(&m->spot.m));
     for (size_t i = 0; i < TREES; i++)
         if (!take_tree(m, i)) return mem_exit(m), 0;
+    for (; m->top < TREES + CACHED; m->top++) MUST(heap_push(&m->spot.m, heap_null()));
     return 1;
 }
 
-void mem_exit(mem *m) { MUST(heap_end(&m->spot.m)); }
+void mem_exit(mem *m) {
+    MUST(heap_end(&m->spot.m));
+    m->top = m->read = 0;
+}
 
 void mem_answer(mem *m) { MUST(heap_answer(&m->spot.m)); }
 void mem_park(mem *m) { heap_park(&m->spot); }
@@ -215,9 +223,13 @@ void mem_unpark(mem *m) { heap_unpark(&m->spot); }
 
 /* Frames. */
 
-size_t mem_frame(mem *m) { return heap_roots(&m->spot.m); }
+size_t mem_frame(mem *m) { return m->top; }
 
-void mem_leave(mem *m, size_t frame) { MUST(heap_pop(&m->spot.m, mem_frame(m) - frame)); }
+void mem_leave(mem *m, size_t frame) {
+    if (m->top == frame) return;
+    MUST(heap_pop(&m->spot.m, m->top - frame));
+    m->top = frame;
+}
 
 static int is_within(value v, size_t frame) { return is_cell(v) && v.n >= frame; }
 
@@ -240,9 +252,10 @@ void mem_give_two(mem *m, size_t frame, value *one, value *other) {
 static void share(mem *m) {
     int fulls = 0;
     heap_code code;
-    do code = heap_share(&m->spot.m, BASE, SLICE); while (again(m, code, &fulls));
+    do code = heap_share(&m->spot.m, BASE, HEAP_SLICE); while (again(m, code, &fulls));
     ASK(m, code);
     m->has_copies = 0;
+    m->read = 0;
 }
 
 /* Makes room in the private heap. Records age once there, but where some have copies all are shared
@@ -257,7 +270,7 @@ static void make_room(mem *m) {
 
 /* Before cells are read or made. What is read stays held until records are shared. */
 static void make_places(mem *m) {
-    if (heap_held(&m->spot.m) > mem_frame(m) + most_read) share(m);
+    if (m->read > most_read + m->top) share(m);
 }
 
 /* Has the slot name a shared cell, which a box may name. */
@@ -268,7 +281,7 @@ static void promote(mem *m, value v) {
     if (plain(m, v).tag == HEAP_REC) make_places(m);
     if (plain(m, v).tag != HEAP_REC) return;
     m->has_copies = 1;
-    do code = heap_promote(&m->spot.m, plain(m, v), SLICE, &place); while (again(m, code, &fulls));
+    do code = heap_promote(&m->spot.m, plain(m, v), HEAP_SLICE, &place); while (again(m, code, &fulls));
     ASK(m, code);
     MUST(heap_set(&m->spot.m, v.n, heap_ref(place)));
 }
@@ -276,37 +289,35 @@ static void promote(mem *m, value v) {
 /* Records. */
 
 static value make(mem *m, uint64_t kind, uint64_t info, const value fields[], size_t n) {
-    uint64_t it = 0;
     for (;;) {
         heap_val f[HEAP_FIELDS] = { heap_num(kind + KINDS * info) };
-        uint64_t kinds = 0;
         for (size_t i = 0; i < n; i++) f[i + 1] = plain(m, fields[i]);
-        for (size_t i = 0; i < HEAP_FIELDS; i++) kinds |= f[i].tag << 4 * i;
-        heap_code code =
-            heap_new(&m->spot.m, kinds, f[0].n, f[1].n, f[2].n, f[3].n, f[4].n, &it);
-        if (code == HEAP_OK) return taken(m, (heap_val){ HEAP_REC, it });
-        if (code != HEAP_NO_RECORDS) MUST(code);
+        heap_val it = heap_record(&m->spot.m, f[0], f[1], f[2], f[3], f[4]);
+        if (it.tag == HEAP_REC) return taken(m, it);
+        if (heap_why(it) != HEAP_NO_RECORDS) MUST(heap_why(it));
         make_room(m);
     }
 }
 
-static value field(mem *m, value cell, size_t field) {
+static heap_val get(mem *m, heap_val cell, size_t field) {
     heap_val out;
-    make_places(m);
-    MUST(heap_get(&m->spot.m, plain(m, cell), field, &out));
-    return taken(m, out);
+    MUST(heap_get(&m->spot.m, cell, field, &out));
+    m->read += cell.tag == HEAP_REF && out.tag == HEAP_REF;
+    return out;
 }
 
-uint64_t mem_word(mem *m, value cell) {
-    heap_val out;
-    MUST(heap_get(&m->spot.m, plain(m, cell), WORD, &out));
-    return out.n;
+static value field(mem *m, value cell, size_t field) {
+    make_places(m);
+    return taken(m, get(m, plain(m, cell), field));
 }
+
+uint64_t mem_word(mem *m, value cell) { return get(m, plain(m, cell), WORD).n; }
 
 void mem_parts(mem *m, value cell, value parts[4]) {
     heap_val all[HEAP_FIELDS];
     make_places(m);
     MUST(heap_get_all(&m->spot.m, plain(m, cell), all, HEAP_FIELDS));
+    m->read += HEAP_FIELDS;
     for (size_t i = 1; i < HEAP_FIELDS; i++) parts[i - 1] = taken(m, all[i]);
 }
 
@@ -328,9 +339,10 @@ value mem_pair(mem *m, uint64_t at, value first, value rest) {
 }
 
 void mem_open_pair(mem *m, value pair, value *first, value *rest) {
-    value it = pair;
-    *first = field(m, it, FIRST);
-    *rest = field(m, it, REST);
+    make_places(m);
+    heap_val it = plain(m, pair), end = get(m, it, REST);
+    *first = taken(m, get(m, it, FIRST));
+    *rest = taken(m, end);
 }
 
 value mem_closure(mem *m, value parameters, value body, value bindings, value name) {
@@ -343,8 +355,22 @@ value mem_binding(mem *m, uint64_t symbol, value v, value next) {
     return make(m, BINDING, symbol, (value[]){ v, next }, 2);
 }
 
-value mem_bound(mem *m, value binding) { return field(m, binding, VALUE); }
-value mem_next(mem *m, value binding) { return field(m, binding, NEXT); }
+/* Nothing moves on the way, and of what is read the last binding alone stays held. */
+int mem_find(mem *m, value bindings, uint64_t symbol, value *v) {
+    make_places(m);
+    size_t held = heap_held(&m->spot.m), read = m->read;
+    heap_val at = plain(m, bindings);
+    while (at.tag != HEAP_NULL && info_of(get(m, at, WORD).n) != symbol) {
+        at = get(m, at, NEXT);
+        if (at.tag != HEAP_REF || at.n <= held) continue;
+        MUST(heap_keep(&m->spot.m, held, at.n, 1));
+        at.n = held;
+    }
+    m->read = read + 1;
+    if (at.tag == HEAP_NULL) return 0;
+    *v = taken(m, get(m, at, VALUE));
+    return 1;
+}
 
 /* A text is a chain of cells, each with how many bytes are in it and after it, and 21 of them. */
 value mem_text(mem *m, const char *text, size_t length) {
@@ -398,15 +424,18 @@ static value new_box(mem *m, value held) {
     promote(m, held);
     make_places(m);
     ASK(m, box(m, plain(m, held), &place));
+    m->read++;
     return taken(m, heap_ref(place));
 }
 
 /* The box of a number. A record cannot name a box, so a symbol, an atom and a task have numbers,
- * whose digits are the way to the box in a tree of all of them: it is made if it is not there. */
+ * whose digits are the way to the box in a tree of all of them: it is made if it is not there. The
+ * box stands in a slot of its own, until another number needs that. */
 static value box_of(mem *m, uint64_t number) {
-    size_t frame = mem_frame(m), depth = 0, way[64];
+    size_t frame = mem_frame(m), depth = 0, way[64], slot = TREES + number % CACHED;
+    if (m->cached[number % CACHED] == number + 1) return in_slot(m, slot);
     value at = in_slot(m, NUMBERED);
-    for (; number > 0; number = (number - 1) / BOXES) way[depth++] = (number - 1) % BOXES;
+    for (uint64_t n = number; n > 0; n = (n - 1) / BOXES) way[depth++] = (n - 1) % BOXES;
     while (depth > 0) {
         value next = field(m, at, way[depth - 1]);
         if (is_nil(next)) {
@@ -416,7 +445,13 @@ static value box_of(mem *m, uint64_t number) {
         at = mem_give(m, frame, next);
         depth--;
     }
-    return at;
+    MUST(heap_set(&m->spot.m, slot, plain(m, at)));
+    m->cached[number % CACHED] = number + 1;
+#ifdef MEM_CHECK
+    m->stamps[slot] = ++m->last;
+#endif
+    mem_leave(m, frame);
+    return in_slot(m, slot);
 }
 
 static value numbered(mem *m, value cell) { return box_of(m, info_of(mem_word(m, cell))); }
@@ -472,8 +507,8 @@ value mem_name(mem *m, value symbol) { return field(m, symbol, NAME); }
 int mem_global(mem *m, value symbol, value *v) {
     size_t frame = mem_frame(m);
     value binding = field(m, box_of(m, symbol_number(info_of(mem_word(m, symbol)))), HELD);
-    if (is_nil(binding)) return mem_leave(m, frame), 0;
-    *v = mem_give(m, frame, mem_bound(m, binding));
+    if (is_nil(binding)) return 0;
+    *v = mem_give(m, frame, field(m, binding, VALUE));
     return 1;
 }
 

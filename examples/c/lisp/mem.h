@@ -91,9 +91,8 @@ void mem_open_pair(mem *m, value pair, value *first, value *rest);
 size_t mem_chars(mem *m, value text, char out[MEM_TEXT]); /* how many there are */
 int mem_same(mem *m, value one, value other);
 
-/* The values of a binding and of the bindings after it. */
-value mem_bound(mem *m, value binding);
-value mem_next(mem *m, value binding);
+/* The value of a symbol's first binding from this one on: 0 if there is none. */
+int mem_find(mem *m, value bindings, uint64_t symbol, value *v);
 
 /* Symbols: one for each name. They, atoms and tasks have the numbers 0, 1, 2 .. in order. A symbol
  * has a global value; mem_global answers 0 where it has none. */
