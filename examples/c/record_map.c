@@ -76,7 +76,7 @@ enum { KEY, VALUE, HEIGHT, LEFT, RIGHT };
  * field names a box, the others name records. An insertion makes and reads less than is said. */
 enum { LAST, BOX, ROOTS, PUBLISHED = 1, MADE = 64, READ = 256 };
 
-static collector col = { .spots = spots, .boxes = PUBLISHED, .roots = ROOTS };
+static collector col = { .spots = spots, .boxes = PUBLISHED, .roots = ROOTS, .rests = 1 };
 
 static tree empty(void) { return heap_null(); }
 static int is_empty(tree it) { return it.tag == HEAP_NULL; }

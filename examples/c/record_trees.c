@@ -92,7 +92,7 @@ typedef heap_val tree;
 /* Trees up to this depth are made without roots, in room that is there before. */
 enum { SMALL = 8, ROOTS = 256 };
 
-static collector col = { .spots = spots, .boxes = 1, .roots = ROOTS };
+static collector col = { .spots = spots, .boxes = 1, .roots = ROOTS, .rests = 1 };
 
 static tree make(worker *w, tree left, tree right) {
     heap_val it = heap_new(&w->spot->m, left.tag | right.tag << 8, left.n, right.n, 0, 0, 0);

@@ -28,6 +28,7 @@ typedef struct {
     size_t count;
     uint32_t boxes;          /* 0: all five */
     uint32_t records, roots; /* of each private heap, if there are any */
+    int rests;               /* until a quarter of the blocks with free cells is used up */
     uint32_t moves;          /* in a step */
     atomic_int over;
     atomic_uint cycles;      /* as heap_look tells, after each cycle */
@@ -36,13 +37,19 @@ typedef struct {
 
 static inline void *collector_runs(void *given) {
     collector *c = given;
-    heap_stats stats;
-    int how = HEAP_MORE;
+    heap_stats last, now;
+    int how = HEAP_ENDED;
+    MUST(heap_look(&c->col, &last));
     while (!atomic_load(&c->over)) {
+        MUST(heap_look(&c->col, &now));
+        if (how == HEAP_ENDED && c->rests && now.free_about > last.free_about / 4 * 3) {
+            heap_sleep();
+            continue;
+        }
         MUST(heap_step(&c->col, c->moves, &how));
         if (how == HEAP_ENDED) {
-            MUST(heap_look(&c->col, &stats));
-            atomic_store(&c->cycles, stats.cycles);
+            MUST(heap_look(&c->col, &last));
+            atomic_store(&c->cycles, last.cycles);
         }
         if (how != HEAP_ASKS) continue;
         heap_serve(c->spots, c->count);

@@ -119,7 +119,7 @@ static void opens(session *s) {
 static void *run(void *given) {
     session *s = given;
     reader r = { .file = s->file, .prompt = s->prompt, .row = 1, .column = 1 };
-    if (!mem_enter(s->t->m) || setjmp(s->t->top) != 0) {
+    if (setjmp(s->t->top) != 0 || !mem_enter(s->t->m)) {
         fprintf(stderr, "lisp: the heap has too few cells\n");
         exit(2);
     }

@@ -17,15 +17,16 @@ enum { SYMBOLS = 0, NUMBERED = 1, TREES = 2 }; /* fields of the anchor, a seat's
 enum { CACHED = 256 };                         /* and the slots after these */
 enum { STATES = 32 };
 
-/* A seat's private heap has so many records. Its places are for the cells of slots, for what was
- * read and promoted since records moved, and for both again while they move. */
+/* A seat's private heap has so many records, and its held list so many places: for the cells that
+ * are in slots, those that were read, and at a share a copy of each record and each root once more.
+ */
 #ifdef MEM_CHECK
 enum { RECORDS = 64 };
 #else
 enum { RECORDS = 4096 };
 #endif
-enum { BASE = HEAP_FIRST, LEAST_READ = 64, MOST_READ = 6 * RECORDS };
-enum { ROOM = 3 * MEM_SLOTS + 8 * RECORDS };
+enum { BASE = HEAP_FIRST, LEAST_READ = 64, FEW = 16, MOST_READ = 16 * RECORDS };
+enum { ROOM = 3 * MEM_SLOTS + 18 * RECORDS };
 
 struct mem {
     heap_spot spot;
@@ -44,7 +45,7 @@ struct mem {
 static heap_col col = HEAP_ZERO;
 static struct mem seats[MEM_SEATS];
 static int is_always;
-static size_t most_read; /* cells that a thread reads before it lets them go: few of all cells */
+static size_t most_read; /* cells that a thread reads before it lets them go */
 static FILE *told; /* a line for each cycle, if it is there */
 static pthread_t collector;
 static atomic_int over, wanted;
@@ -139,7 +140,7 @@ static void *collect(void *unused) {
 
 int mem_open(uint32_t cells, int always, FILE *cycle_lines) {
     is_always = always;
-    most_read = cells / MEM_SEATS < MOST_READ ? cells / MEM_SEATS : MOST_READ;
+    most_read = cells / FEW < MOST_READ ? cells / FEW : MOST_READ;
     if (most_read < LEAST_READ) most_read = LEAST_READ;
     told = cycle_lines;
     if (told) fprintf(told, "%u\n", (unsigned)cells);
@@ -175,46 +176,6 @@ static int again(mem *m, heap_code code, int *fulls) {
     if (code == HEAP_OK) return 0;
     atomic_store(&wanted, 1);
     return heap_again(&m->spot.m, code, fulls);
-}
-
-/* A new box, held at a place. */
-static heap_code box(mem *m, heap_val held, size_t *place) {
-    heap_val all[HEAP_FIELDS] = { [HELD] = held };
-    int fulls = 0;
-    heap_code code;
-    do code = heap_make(&m->spot.m, all, HEAP_FIELDS, place); while (again(m, code, &fulls));
-    return code;
-}
-
-/* The box at a field of the anchor, which the first thread of all puts there. */
-static int take_tree(mem *m, size_t field) {
-    heap_val found;
-    size_t place = 0;
-    MUST(heap_read(&m->spot.m, 0, field, &found));
-    if (found.tag == HEAP_NULL) {
-        if (box(m, heap_null(), &place) != HEAP_OK) return 0;
-        found = heap_ref(place);
-        MUST(heap_write(&m->spot.m, 0, field, found));
-    }
-    (void)taken(m, found);
-    return 1;
-}
-
-int mem_enter(mem *m) {
-    if (!m->has_records && heap_records(&m->spot.m, RECORDS, MEM_SLOTS) != HEAP_OK) return 0;
-    m->has_records = 1;
-    m->has_copies = 0;
-    memset(m->cached, 0, sizeof m->cached);
-    MUST(heap_begin(&m->spot.m));
-    for (size_t i = 0; i < TREES; i++)
-        if (!take_tree(m, i)) return mem_exit(m), 0;
-    for (; m->top < TREES + CACHED; m->top++) MUST(heap_push(&m->spot.m, heap_null()));
-    return 1;
-}
-
-void mem_exit(mem *m) {
-    MUST(heap_end(&m->spot.m));
-    m->top = m->read = 0;
 }
 
 void mem_answer(mem *m) { MUST(heap_answer(&m->spot.m)); }
@@ -279,9 +240,10 @@ static void promote(mem *m, value v) {
     int fulls = 0;
     heap_code code;
     if (plain(m, v).tag == HEAP_REC) make_places(m);
-    if (plain(m, v).tag != HEAP_REC) return;
+    heap_val it = plain(m, v);
+    if (it.tag != HEAP_REC) return;
     m->has_copies = 1;
-    do code = heap_promote(&m->spot.m, plain(m, v), HEAP_SLICE, &place); while (again(m, code, &fulls));
+    do code = heap_promote(&m->spot.m, it, HEAP_SLICE, &place); while (again(m, code, &fulls));
     ASK(m, code);
     MUST(heap_set(&m->spot.m, v.n, heap_ref(place)));
 }
@@ -327,7 +289,7 @@ int mem_same(mem *m, value one, value other) {
     if (!is_cell(one) || !is_cell(other)) return one.tag == other.tag && one.n == other.n;
     heap_val first = plain(m, one), second = plain(m, other);
     if (first.tag == HEAP_REC && second.tag == HEAP_REC) return first.n == second.n;
-    if (mem_word(m, one) != mem_word(m, other)) return 0;
+    if (first.tag != second.tag && !m->has_copies) return 0;
     promote(m, one);
     promote(m, other);
     MUST(heap_same(&m->spot.m, plain(m, one).n, plain(m, other).n, &same));
@@ -421,11 +383,41 @@ static int swap_field(mem *m, value box, size_t field, value was, value now) {
 
 static value new_box(mem *m, value held) {
     size_t place = 0;
+    int fulls = 0;
+    heap_code code;
     promote(m, held);
     make_places(m);
-    ASK(m, box(m, plain(m, held), &place));
+    heap_val all[HEAP_FIELDS] = { [HELD] = plain(m, held) };
+    do code = heap_make(&m->spot.m, all, HEAP_FIELDS, &place); while (again(m, code, &fulls));
+    ASK(m, code);
     m->read++;
     return taken(m, heap_ref(place));
+}
+
+/* The box at a field of the anchor, which the first thread of all puts there. */
+static void take_tree(mem *m, size_t field) {
+    heap_val found;
+    MUST(heap_read(&m->spot.m, 0, field, &found));
+    if (found.tag == HEAP_NULL)
+        MUST(heap_write(&m->spot.m, 0, field, plain(m, new_box(m, nil()))));
+    else
+        (void)taken(m, found);
+}
+
+int mem_enter(mem *m) {
+    if (!m->has_records && heap_records(&m->spot.m, RECORDS, MEM_SLOTS) != HEAP_OK) return 0;
+    m->has_records = 1;
+    m->has_copies = 0;
+    memset(m->cached, 0, sizeof m->cached);
+    MUST(heap_begin(&m->spot.m));
+    for (size_t i = 0; i < TREES; i++) take_tree(m, i);
+    for (; m->top < TREES + CACHED; m->top++) MUST(heap_push(&m->spot.m, heap_null()));
+    return 1;
+}
+
+void mem_exit(mem *m) {
+    MUST(heap_end(&m->spot.m));
+    m->top = m->read = 0;
 }
 
 /* The box of a number. A record cannot name a box, so a symbol, an atom and a task have numbers,

@@ -55,8 +55,7 @@ void mem_close(void);
 uint64_t mem_cycles(void); /* that ended */
 int64_t mem_used(void);    /* how many cells the last one found in use */
 
-/* A seat comes in, with no values: 0 if there is no memory, or no cell for the first of them.
- * mem_exit: it goes out. */
+/* A seat comes in, with no values of its own: 0 if there is no memory. mem_exit: it goes out. */
 mem *mem_seat(size_t number);
 int mem_enter(mem *m);
 void mem_exit(mem *m);
