@@ -52,7 +52,8 @@ let most_memory () =
   close_in file;
   most
 
-let argument i otherwise = if Array.length Sys.argv > i then int_of_string Sys.argv.(i) else otherwise
+let argument i otherwise =
+  if Array.length Sys.argv > i then int_of_string Sys.argv.(i) else otherwise
 
 let () =
   let threads = argument 1 1 and every = argument 2 10000 in

@@ -41,7 +41,8 @@ let most_memory () =
   close_in file;
   most
 
-let argument i otherwise = if Array.length Sys.argv > i then int_of_string Sys.argv.(i) else otherwise
+let argument i otherwise =
+  if Array.length Sys.argv > i then int_of_string Sys.argv.(i) else otherwise
 
 (* What the work of each number gives, the first one done here and the others in processes. *)
 let in_processes threads work =

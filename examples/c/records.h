@@ -5,6 +5,10 @@
 #include "figures.h"
 #include "support.h"
 
+/* At most so many records are shared in one call, so that none takes long. Each call looks for what
+ * is reached again, so a few thousand are better than a few. */
+enum { SLICE = 16384 };
+
 typedef struct {
     heap_mut *m;
     longest *most;
@@ -42,7 +46,7 @@ static inline void reserve(heap_mut *m, longest *most, uint32_t records, size_t 
 /* All that the roots lead to is shared, and their cells are held from HEAP_FIRST on. */
 static inline void share(heap_mut *m, longest *most) {
     tries t = tries_of(m, most);
-    while (goes_on(&t, heap_share(m, HEAP_FIRST, HEAP_SLICE))) continue;
+    while (goes_on(&t, heap_share(m, HEAP_FIRST, SLICE))) continue;
 }
 
 /* A record's copy, at a place; another value as it is. */
@@ -50,7 +54,7 @@ static inline heap_val promoted(heap_mut *m, longest *most, heap_val v) {
     tries t = tries_of(m, most);
     size_t place = 0;
     if (v.tag != HEAP_REC) return v;
-    while (goes_on(&t, heap_promote(m, v, HEAP_SLICE, &place))) continue;
+    while (goes_on(&t, heap_promote(m, v, SLICE, &place))) continue;
     return heap_ref(place);
 }
 
