@@ -470,8 +470,9 @@ static int compare(mem *m, const char *name, size_t length, uint64_t hash, value
 
 static value new_symbol(mem *m, const char *name, size_t length, uint64_t hash) {
     value text = mem_text(m, name, length);
-    uint64_t info = hash << SYMBOL_BITS | atomic_fetch_add(&numbers, 1);
-    return new_box(m, make(m, SYMBOL, info, &text, 1));
+    uint64_t number = atomic_fetch_add(&numbers, 1);
+    if (number >> SYMBOL_BITS) m->handler(m->owner, MEM_FULL);
+    return new_box(m, make(m, SYMBOL, hash << SYMBOL_BITS | number, &text, 1));
 }
 
 value mem_symbol(mem *m, const char *name, size_t length) {
