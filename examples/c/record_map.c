@@ -125,10 +125,11 @@ static tree version(worker *w, uint64_t i) {
     return get(w, root(&w->spot->m, BOX), PUBLISHED + i % STAY);
 }
 
-/* Before an insertion: from here to its end nothing moves, so that it needs no roots. */
+/* Before an insertion: from here to its end nothing moves, so that it needs no roots. What it reads
+ * stays held, so places for a copy of each record are asked for too, before it is too late. */
 static void has_room(worker *w) {
     MUST(heap_answer(&w->spot->m));
-    reserve(&w->spot->m, &w->most, MADE, READ);
+    reserve(&w->spot->m, &w->most, MADE, READ + records);
 }
 
 /* Before a look-up, and after it: what it held is let go. */
