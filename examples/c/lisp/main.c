@@ -51,8 +51,11 @@ static void fill_reserve(session *s) {
         for (long i = 0; i < MOST_RESERVED && i < s->cells / PART_RESERVED; i++)
             list = mem_give(t->m, frame, mem_pair(t->m, 0, nil(), list));
         mem_set(t->m, s->reserve, list);
+        mem_leave(t->m, frame);
+    } else {
+        mem_leave(t->m, frame);
+        mem_recover(t->m);
     }
-    mem_leave(t->m, frame);
 }
 
 /* One form: 0 at the end. After a fault nothing is left but what it did to atoms and names. */
@@ -67,6 +70,7 @@ static int does_form(session *s, reader *r) {
         if (t->why == OUT_OF_MEMORY) mem_set(t->m, s->reserve, nil());
         report(t);
         mem_leave(t->m, frame);
+        if (t->why == OUT_OF_MEMORY) mem_recover(t->m);
         skip_form(t, r);
         s->status = 1;
         return 1;

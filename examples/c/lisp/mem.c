@@ -31,10 +31,10 @@ enum { ROOM = 3 * MEM_SLOTS + 18 * RECORDS };
 struct mem {
     heap_spot spot;
     size_t top;              /* how many slots are taken */
-    size_t read;             /* how many cells were read since private records were shared */
     uint64_t cached[CACHED]; /* 1 more than the number whose box is in the slot, or 0 */
     int has_records;         /* it has a private heap */
     int has_copies;          /* some of its private records may have been promoted */
+    size_t read;             /* how many cells were read since private records were shared */
     void (*handler)(void *owner, mem_fault fault);
     void *owner;
 #ifdef MEM_CHECK
@@ -209,15 +209,19 @@ void mem_give_two(mem *m, size_t frame, value *one, value *other) {
 
 /* Moving records. Whatever is needed stands in slots then, and moves with its record. */
 
-/* Shares all that slots lead to: no private record is left. */
-static void share(mem *m) {
-    int fulls = 0;
+/* Shares all that slots lead to: no private record is left, nor a copy of one that went. */
+static heap_code try_share(mem *m, int fulls) {
     heap_code code;
     do code = heap_share(&m->spot.m, BASE, HEAP_SLICE); while (again(m, code, &fulls));
-    ASK(m, code);
+    if (code != HEAP_OK) return code;
     m->has_copies = 0;
     m->read = 0;
+    return code;
 }
+
+static void share(mem *m) { ASK(m, try_share(m, 0)); }
+
+void mem_recover(mem *m) { (void)try_share(m, HEAP_PATIENCE); }
 
 /* Makes room in the private heap. Records age once there, but where some have copies all are shared
  * at once: then no record gets a second copy, and one value stays one cell. */

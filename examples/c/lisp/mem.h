@@ -66,6 +66,7 @@ value mem_hand(mem *from, value task, mem *to);
  * is free, and cycles did not help; MEM_DEEP: too few slots are left. */
 typedef enum { MEM_FULL, MEM_DEEP } mem_fault;
 void mem_on_fault(mem *m, void (*handler)(void *owner, mem_fault fault), void *owner);
+void mem_recover(mem *m); /* after MEM_FULL, once its frame was left: lets its cells go */
 
 void mem_answer(mem *m); /* to be called often */
 void mem_park(mem *m);   /* before it blocks; no call until it is taken back */
