@@ -13,35 +13,22 @@
 #define GC_THREADS
 #include <gc.h>
 #endif
+#include "figures.h"
 #include "support.h"
-#include <sys/resource.h>
 
 enum { SHORTEST = 4, MOST_THREADS = 64, ROOM = 256, LEFT = 0, RIGHT = 1 };
 
 typedef struct {
     heap_spot *spot;
     int number;
-    uint64_t made, longest, longest_wait;
+    uint64_t made;
+    longest most;
 } worker;
 
 static heap_spot spots[MOST_THREADS];
 static worker workers[MOST_THREADS];
-static int threads = 1, depth = 18, clocks = 0;
+static int threads = 1, depth = 18;
 static uint32_t cells = 1048576;
-
-static uint64_t nanoseconds(clockid_t clock) {
-    struct timespec t;
-    (void)clock_gettime(clock, &t);
-    return (uint64_t)t.tv_sec * 1000000000U + (uint64_t)t.tv_nsec;
-}
-
-static uint64_t begins(void) { return clocks ? nanoseconds(CLOCK_MONOTONIC) : 0; }
-
-static void ends(uint64_t from, uint64_t *longest) {
-    if (!clocks) return;
-    uint64_t took = nanoseconds(CLOCK_MONOTONIC) - from;
-    if (took > *longest) *longest = took;
-}
 
 static uint64_t size_of(int of_depth) { return (UINT64_C(2) << of_depth) - 1; }
 
@@ -56,7 +43,7 @@ static node *make(worker *w, node *left, node *right) {
 #else
     node *it = malloc(sizeof *it);
 #endif
-    ends(from, &w->longest);
+    ends(from, &w->most.call);
     HOLDS(it != NULL);
     it->child[LEFT] = left;
     it->child[RIGHT] = right;
@@ -116,10 +103,10 @@ static tree make(worker *w, size_t keep, const heap_val *children, size_t n) {
     size_t it = 0;
     uint64_t from = begins();
     heap_code code = heap_make_at(m, keep, children, n, &it);
-    if (code == HEAP_OK) ends(from, &w->longest);
+    if (code == HEAP_OK) ends(from, &w->most.call);
     if (code != HEAP_OK) {
         code = heap_make_at_wait(m, keep, children, n, &it);
-        ends(from, &w->longest_wait);
+        ends(from, &w->most.wait);
     }
     MUST(code);
     w->made++;
@@ -200,20 +187,12 @@ static void *runs(void *given) {
 }
 
 static void figures(uint64_t from) {
-    uint64_t longest = 0, wait = 0;
-    struct rusage used;
+    longest most = { 0, 0 };
     for (int i = 0; i < threads; i++) {
-        if (workers[i].longest > longest) longest = workers[i].longest;
-        if (workers[i].longest_wait > wait) wait = workers[i].longest_wait;
+        if (workers[i].most.call > most.call) most.call = workers[i].most.call;
+        if (workers[i].most.wait > most.wait) most.wait = workers[i].most.wait;
     }
-    (void)getrusage(RUSAGE_SELF, &used);
-    fprintf(stderr, "threads %d, wall %.2f s, processor %.2f s, memory %ld MB", threads,
-            (double)(nanoseconds(CLOCK_MONOTONIC) - from) / 1e9,
-            (double)nanoseconds(CLOCK_PROCESS_CPUTIME_ID) / 1e9, used.ru_maxrss / 1024);
-    if (clocks)
-        fprintf(stderr, ", longest call %.3f ms, and of those that wait %.3f ms",
-                (double)longest / 1e6, (double)wait / 1e6);
-    fprintf(stderr, "\n");
+    print_figures(threads, from, most);
 }
 
 int main(int argc, char **argv) {

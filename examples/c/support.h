@@ -26,21 +26,30 @@ typedef struct {
     heap_col col;
     heap_spot *spots;
     size_t count;
-    uint32_t moves;     /* in a step */
+    uint32_t boxes;          /* 0: all five */
+    uint32_t records, roots; /* of each private heap, if there are any */
+    int rests;               /* until a quarter of the blocks with free cells is used up */
+    uint32_t moves;          /* in a step */
     atomic_int over;
-    atomic_uint cycles; /* as heap_look tells, after each cycle */
+    atomic_uint cycles;      /* as heap_look tells, after each cycle */
     pthread_t thread;
 } collector;
 
 static inline void *collector_runs(void *given) {
     collector *c = given;
-    heap_stats stats;
-    int how = HEAP_MORE;
+    heap_stats last, now;
+    int how = HEAP_ENDED;
+    MUST(heap_look(&c->col, &last));
     while (!atomic_load(&c->over)) {
+        MUST(heap_look(&c->col, &now));
+        if (how == HEAP_ENDED && c->rests && now.free_about > last.free_about / 4 * 3) {
+            heap_sleep();
+            continue;
+        }
         MUST(heap_step(&c->col, c->moves, &how));
         if (how == HEAP_ENDED) {
-            MUST(heap_look(&c->col, &stats));
-            atomic_store(&c->cycles, stats.cycles);
+            MUST(heap_look(&c->col, &last));
+            atomic_store(&c->cycles, last.cycles);
         }
         if (how != HEAP_ASKS) continue;
         heap_serve(c->spots, c->count);
@@ -59,8 +68,12 @@ static inline void join(pthread_t thread) { HOLDS(pthread_join(thread, NULL) == 
 
 /* Opens a heap with a seat for each spot, and starts the collector's thread. */
 static inline void collector_starts(collector *c, uint32_t cells, uint32_t room) {
-    MUST(heap_open(cells, (uint32_t)c->count, 65536, 5, &c->col));
-    for (size_t i = 0; i < c->count; i++) MUST(heap_seat(&c->col, room, &c->spots[i].m));
+    uint32_t boxes = c->boxes ? c->boxes : HEAP_FIELDS;
+    MUST(heap_open(cells, (uint32_t)c->count, 65536, boxes, &c->col));
+    for (size_t i = 0; i < c->count; i++) {
+        MUST(heap_seat(&c->col, room, &c->spots[i].m));
+        if (c->records) MUST(heap_records(&c->spots[i].m, c->records, c->roots));
+    }
     MUST(heap_duty(&c->col, 1));
     c->moves = 500;
     c->thread = start(collector_runs, c);

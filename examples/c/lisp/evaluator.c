@@ -30,15 +30,9 @@ static uint64_t symbol_of(interpreter *t, value v) {
 }
 
 static value value_of(interpreter *t, value symbol, uint64_t info, value bindings) {
-    size_t frame = mem_frame(t->m);
     value v;
-    while (is_cell(bindings)) {
-        if (info_of(mem_word(t->m, bindings)) == info)
-            return mem_give(t->m, frame, mem_bound(t->m, bindings));
-        bindings = mem_next(t->m, bindings);
-    }
-    mem_leave(t->m, frame);
-    if (!mem_global(t->m, symbol, &v)) fail(t, UNBOUND, symbol);
+    if (!mem_find(t->m, bindings, info, &v) && !mem_global(t->m, symbol, &v))
+        fail(t, UNBOUND, symbol);
     return v;
 }
 

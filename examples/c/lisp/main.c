@@ -51,8 +51,11 @@ static void fill_reserve(session *s) {
         for (long i = 0; i < MOST_RESERVED && i < s->cells / PART_RESERVED; i++)
             list = mem_give(t->m, frame, mem_pair(t->m, 0, nil(), list));
         mem_set(t->m, s->reserve, list);
+        mem_leave(t->m, frame);
+    } else {
+        mem_leave(t->m, frame);
+        mem_recover(t->m);
     }
-    mem_leave(t->m, frame);
 }
 
 /* One form: 0 at the end. After a fault nothing is left but what it did to atoms and names. */
@@ -67,6 +70,7 @@ static int does_form(session *s, reader *r) {
         if (t->why == OUT_OF_MEMORY) mem_set(t->m, s->reserve, nil());
         report(t);
         mem_leave(t->m, frame);
+        if (t->why == OUT_OF_MEMORY) mem_recover(t->m);
         skip_form(t, r);
         s->status = 1;
         return 1;
@@ -104,8 +108,8 @@ static void opens(session *s) {
     interpreter *t = s->t;
     value list = nil();
     size_t n = 0;
-    s->reserve = mem_atom(t->m, nil());
     evaluator_opens(t);
+    s->reserve = mem_atom(t->m, nil());
     t->truth = mem_symbol(t->m, "t", 1);
     builtins_open(t);
     define(t, "t", t->truth);
@@ -119,7 +123,7 @@ static void opens(session *s) {
 static void *run(void *given) {
     session *s = given;
     reader r = { .file = s->file, .prompt = s->prompt, .row = 1, .column = 1 };
-    if (!mem_enter(s->t->m, NULL) || setjmp(s->t->top) != 0) {
+    if (setjmp(s->t->top) != 0 || !mem_enter(s->t->m)) {
         fprintf(stderr, "lisp: the heap has too few cells\n");
         exit(2);
     }

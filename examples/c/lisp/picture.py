@@ -3,9 +3,8 @@
 
     out/gcc/lisp --cycles LINES --cells 60000 scripts/garbage.lisp && picture.py LINES > PICTURE.svg
 
-LINES has the number of cells, and for each cycle how many were made and how many were freed until
-its end. A bar is what was in use then: what lives, and what was made while the cycle ran. At most
-the first 120 cycles are drawn.
+LINES has the number of cells, and for each cycle how many cells it found in use, and how many were
+freed until its end. At most the first 120 cycles are drawn.
 """
 import os
 import sys
@@ -25,12 +24,12 @@ def main():
     cells, cycles = cells[0], cycles[:MOST]
     if not cycles:
         sys.exit("no cycle ended")
-    used = [made - freed for made, freed in cycles]
+    used = [found for found, _ in cycles]
     step, floor = WIDE / len(used), TOP + HIGH
     bars = [f"M{LEFT + k * step:.1f} {floor}v-{HIGH * cells_used / cells:.1f}h{step * .7:.1f}"
             f"V{floor}z" for k, cells_used in enumerate(used)]
-    parts = [text(LEFT, 20, "Cells in use at the end of each cycle", "title ink"),
-             text(LEFT, 38, f"{len(used)} cycles, {cycles[-1][0]:,} cells made; most in use "
+    parts = [text(LEFT, 20, "Cells that each cycle found in use", "title ink"),
+             text(LEFT, 38, f"{len(used)} cycles, {cycles[-1][1]:,} cells freed; most in use "
                   f"{max(used):,} of {cells:,}", "faint"),
              f'<path d="M{LEFT} {TOP}h{WIDE}M{LEFT} {floor}h{WIDE}" class="edge"/>',
              f'<path d="{NEWLINE.join(bars)}" class="use"/>',

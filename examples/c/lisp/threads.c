@@ -80,7 +80,7 @@ value spawn(interpreter *t, value function) {
     value task = mem_task(t->m, function);
     interpreter *other = get_seat();
     if (!other) fail(t, NO_THREAD, nil());
-    if (!mem_enter(other->m, t->m)) {
+    if (!mem_enter(other->m)) {
         put_back(other);
         fail(t, OUT_OF_MEMORY, nil());
     }

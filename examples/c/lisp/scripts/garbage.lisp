@@ -1,5 +1,5 @@
 ; options: --cells 20000
-; quick: 15
+; quick: 40
 ; Makes garbage for a while: many times what the heap has cells, while what is used stays flat.
 ; argument: how many rounds (300; on a quiet machine 10000 are a minute)
 (define rounds (if arguments (car arguments) 300))
