@@ -18,6 +18,16 @@ pub data Leads (records : List (List MinorField)) (place : ℕ) : MinorRef → T
   by : {r older : MinorRef} (i : ℕ) → i < 5 → field_at records r.number i ≡ field.Minor older
       → Leads records place older → Leads records place r
 
+-- a field of some record is the shared place
+pub record NamesPlace (records : List (List MinorField)) (place : ℕ) : Type 0 where
+  pub number : ℕ
+  pub index : ℕ
+  pub is : field_at records number index ≡ field.Shared place
+
+-- each shared place that a field of a record is was one before
+abbrev pub NameNoMore : List (List MinorField) → List (List MinorField) → Type 0
+NameNoMore old new = (place : ℕ) → NamesPlace new place → NamesPlace old place
+
 -- a root, or past the end of the roots the oldest record
 abbrev pub root_at : List MinorRef → ℕ → MinorRef
 root_at roots k = slice_index_or roots k record { number = 0 }

@@ -7,7 +7,7 @@ ghost use Rattle.minor_heap.specs.Reaches.{IsMarked};
 ghost use Rattle.minor_heap.specs.Spans.{NoneMarked};
 ghost use Rattle.aged_nursery.specs.Copies.{AreClosed, AreCopied, moved_field, moved_record};
 ghost use Rattle.aged_nursery.specs.Copies.{moved_ref};
-ghost use Rattle.aged_nursery.specs.Survivors.{AreSurvivors};
+ghost use Rattle.aged_nursery.specs.Survivors.{AreSurvivors, NameNoMore};
 
 use minor_heap::{MinorField, MinorHeap, MinorRef};
 
@@ -27,6 +27,7 @@ pub(crate) fn copy_reached(
     requires numbers { length heap.now.records ≤ length numbers.old }
     requires none { NoneMarked marks.old }
     ensures survivors { AreSurvivors heap.now.records roots.old other.new.records roots.new }
+    ensures named { NameNoMore heap.now.records other.new.records }
     ensures room { other.new.room ≡ other.old.room }
     ensures marks { length marks.new ≡ length marks.old }
     ensures numbers { length numbers.new ≡ length numbers.old }
@@ -47,6 +48,7 @@ fn copy_marked(heap: &MinorHeap, other: &mut MinorHeap, marks: &[bool], numbers:
     requires numbers { length heap.now.records ≤ length numbers.old }
     ensures copied { AreCopied heap.now.records marks.now numbers.new other.new.records
         (length heap.now.records) }
+    ensures named { NameNoMore heap.now.records other.new.records }
     ensures ordered { IsOrdered 0 other.new.records }
     ensures many { length other.new.records ≡ length (marked_of 0 marks.now) }
     ensures fewer { length other.new.records ≤ length heap.now.records }

@@ -5,7 +5,7 @@ ghost use Rattle.minor_heap.specs.Nursery.{Stands};
 ghost use Rattle.minor_heap.specs.Terms.{terms_of};
 ghost use Rattle.aged_nursery.specs.Aged.{Aged};
 ghost use Rattle.aged_nursery.specs.Lending.{LendsHeap};
-ghost use Rattle.aged_nursery.specs.Survivors.{AreSurvivors};
+ghost use Rattle.aged_nursery.specs.Survivors.{AreSurvivors, NameNoMore};
 
 use crate::NoMemory;
 use crate::copies::copy_reached;
@@ -91,6 +91,7 @@ impl AgedNursery {
         requires whole { self.old.heap.room ≡ self.old.records }
         ensures survivors { AreSurvivors self.old.heap.records roots.old self.new.heap.records
             roots.new }
+        ensures named { NameNoMore self.old.heap.records self.new.heap.records }
         ensures room { self.new.heap.room ≡ self.old.heap.room }
         ensures records { self.new.records ≡ self.old.records }
         ensures aged { self.new.aged ≡ length self.new.heap.records }

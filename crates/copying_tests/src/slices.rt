@@ -68,7 +68,11 @@ fn copy_in_slices(
     ensures seat { IsBound heap.now seat.new }
     ensures inside { seat.new.me.presence.inside ≡ true }
 {
-    let mut cells = NextCells { next: 1, left: 0 };
+    let mut cells = NextCells {
+        next: 1,
+        left: 0,
+        refusals: 0,
+    };
     let waits = copy_some(heap, seat, &mut cells, table, minor, 0, 1);
     let one = copy_some(heap, seat, &mut cells, table, minor, 2, 1);
     let again = copy_some(heap, seat, &mut cells, table, minor, 0, 5);
@@ -96,7 +100,7 @@ fn row_of(image: &Image, cell: u32) -> Option<Row> {
     ])
 }
 
-fn cells_of(image: &Image) -> Cells {
+pub(crate) fn cells_of(image: &Image) -> Cells {
     [
         row_of(image, 0),
         row_of(image, 1),

@@ -13,14 +13,16 @@ use Rattle.minor_heap.specs.Terms.{term_of}
 use Rattle.aged_nursery.specs.Survivors.{AreSurvivors}
 use Rattle.local_references.specs.declared.roots.Root.{Root}
 use Rattle.local_references.specs.declared.roots.Root.TheVariants as root
-use Rattle.local_references.specs.Roots.{AllStand, AreMoved, IsMoved, RootStands, RootsKeep}
-use Rattle.local_references.specs.Roots.{private_of, rank, root_term, slot_at}
+use Rattle.local_references.specs.Roots.{AllStand, AreMoved, IsMoved, IsPrivate, RootStands}
+use Rattle.local_references.specs.Roots.{RootsKeep, private_of, rank, root_term, slot_at}
 
 abbrev pub first_ref : MinorRef
 first_ref = record { number = 0 }
 
 abbrev ref_or : Root → MinorRef
 ref_or (root.Private r) = r
+ref_or root.Null = first_ref
+ref_or (root.Num value) = first_ref
 ref_or (root.Shared place) = first_ref
 
 -- One more root.
@@ -38,6 +40,8 @@ next_all [] k lt = absurd (omega (arith, lt))
 next_all (x ∷ slots) zero lt = refl
 next_all (root.Private q ∷ slots) (suc k) lt =
     ap (λ (rs : List MinorRef). q ∷ rs) (next_all slots k (omega (arith, lt)))
+next_all (root.Null ∷ slots) (suc k) lt = next_all slots k (omega (arith, lt))
+next_all (root.Num value ∷ slots) (suc k) lt = next_all slots k (omega (arith, lt))
 next_all (root.Shared place ∷ slots) (suc k) lt = next_all slots k (omega (arith, lt))
 
 pub next_root : (slots : List Root) (k : ℕ) (x : Root) → k < length slots → x ≡ slot_at slots k
@@ -58,6 +62,8 @@ rank_within [] zero = omega arith
 rank_within [] (suc k) = omega arith
 rank_within (x ∷ slots) zero = omega arith
 rank_within (root.Private q ∷ slots) (suc k) = let le = rank_within slots k in omega (arith, le)
+rank_within (root.Null ∷ slots) (suc k) = rank_within slots k
+rank_within (root.Num value ∷ slots) (suc k) = rank_within slots k
 rank_within (root.Shared place ∷ slots) (suc k) = rank_within slots k
 
 pub rank_few : (slots : List Root) (k : ℕ) → rank slots k ≤ k
@@ -65,6 +71,8 @@ rank_few [] zero = omega arith
 rank_few [] (suc k) = omega arith
 rank_few (x ∷ slots) zero = omega arith
 rank_few (root.Private q ∷ slots) (suc k) = let few = rank_few slots k in omega (arith, few)
+rank_few (root.Null ∷ slots) (suc k) = let few = rank_few slots k in omega (arith, few)
+rank_few (root.Num value ∷ slots) (suc k) = let few = rank_few slots k in omega (arith, few)
 rank_few (root.Shared place ∷ slots) (suc k) = let few = rank_few slots k in omega (arith, few)
 
 -- Where a private root stands among the private ones.
@@ -73,20 +81,28 @@ pub rank_below : (slots : List Root) (k : ℕ) (r : MinorRef) → slot_at slots 
     → rank slots k < length (private_of slots)
 rank_below [] k r is = absurd cc
 rank_below (root.Private q ∷ slots) zero r is = omega arith
+rank_below (root.Null ∷ slots) zero r is = absurd cc
+rank_below (root.Num value ∷ slots) zero r is = absurd cc
 rank_below (root.Shared place ∷ slots) zero r is = absurd cc
 rank_below (root.Private q ∷ slots) (suc k) r is =
     let lt = rank_below slots k r is in omega (arith, lt)
+rank_below (root.Null ∷ slots) (suc k) r is = rank_below slots k r is
+rank_below (root.Num value ∷ slots) (suc k) r is = rank_below slots k r is
 rank_below (root.Shared place ∷ slots) (suc k) r is = rank_below slots k r is
 
 pub private_at : (slots : List Root) (k : ℕ) (r : MinorRef) → slot_at slots k ≡ root.Private r
     → slice_index_or (private_of slots) (rank slots k) first_ref ≡ r
 private_at [] k r is = absurd cc
 private_at (root.Private q ∷ slots) zero r is = ap ref_or is
+private_at (root.Null ∷ slots) zero r is = absurd cc
+private_at (root.Num value ∷ slots) zero r is = absurd cc
 private_at (root.Shared place ∷ slots) zero r is = absurd cc
 private_at (root.Private q ∷ slots) (suc k) r is = private_at slots k r is
+private_at (root.Null ∷ slots) (suc k) r is = private_at slots k r is
+private_at (root.Num value ∷ slots) (suc k) r is = private_at slots k r is
 private_at (root.Shared place ∷ slots) (suc k) r is = private_at slots k r is
 
-past : (slots : List Root) (k : ℕ) → length slots ≤ k → slot_at slots k ≡ root.Shared 0
+past : (slots : List Root) (k : ℕ) → length slots ≤ k → slot_at slots k ≡ root.Null
 past [] k le = refl
 past (x ∷ slots) zero le = absurd (omega (arith, le))
 past (x ∷ slots) (suc k) le = past slots k (omega (arith, le))
@@ -98,6 +114,10 @@ private_stand records [] stand i d lt = absurd (omega (arith, lt))
 private_stand records (root.Private q ∷ slots) stand zero d lt = stand zero
 private_stand records (root.Private q ∷ slots) stand (suc i) d lt =
     private_stand records slots (λ k. stand (suc k)) i d (omega (arith, lt))
+private_stand records (root.Null ∷ slots) stand i d lt =
+    private_stand records slots (λ k. stand (suc k)) i d lt
+private_stand records (root.Num value ∷ slots) stand i d lt =
+    private_stand records slots (λ k. stand (suc k)) i d lt
 private_stand records (root.Shared place ∷ slots) stand i d lt =
     private_stand records slots (λ k. stand (suc k)) i d lt
 
@@ -134,16 +154,18 @@ one_moved old new refs i x y lt so is now = record {
 }
   where
     other : (k : ℕ) → k ≢ i → slot_at (slice_set new i y) k ≡ slot_at new k
-    other k differ = get_or-set_other new i k y (root.Shared 0) differ
+    other k differ = get_or-set_other new i k y root.Null differ
 
     same : slot_at (slice_set new i y) i ≡ y
-    same = get_or-set_same new i y (root.Shared 0) (omega (arith, lt, so.many))
+    same = get_or-set_same new i y root.Null (omega (arith, lt, so.many))
 
 -- Where all have moved, the private ones are the records.
 
 one_less : (r : MinorRef) (refs : List MinorRef) (n : ℕ) (x y : Root)
     → IsMoved (r ∷ refs) (suc n) x y → IsMoved refs n x y
 one_less r refs n (root.Private q) y now = now
+one_less r refs n root.Null y now = now
+one_less r refs n (root.Num value) y now = now
 one_less r refs n (root.Shared place) y now = now
 
 pub private_now : (old : List Root) (refs : List MinorRef) (new : List Root)
@@ -160,6 +182,18 @@ private_now (root.Private q ∷ old) (r ∷ refs) (y ∷ new) many so =
       moved = λ k lt. one_less r refs (rank old k) (slot_at old k) (slot_at new k)
           (so.moved (suc k) (omega (arith, lt)));
     })
+private_now (root.Null ∷ old) refs (y ∷ new) many so =
+    ap (λ (z : Root). private_of (z ∷ new)) (so.moved 0 (omega arith))
+    ∙ private_now old refs new many record {
+      many = let all = so.many in omega (arith, all);
+      moved = λ k lt. so.moved (suc k) (omega (arith, lt));
+    }
+private_now (root.Num value ∷ old) refs (y ∷ new) many so =
+    ap (λ (z : Root). private_of (z ∷ new)) (so.moved 0 (omega arith))
+    ∙ private_now old refs new many record {
+      many = let all = so.many in omega (arith, all);
+      moved = λ k lt. so.moved (suc k) (omega (arith, lt));
+    }
 private_now (root.Shared place ∷ old) refs (y ∷ new) many so =
     ap (λ (z : Root). private_of (z ∷ new)) (so.moved 0 (omega arith))
     ∙ private_now old refs new many record {
@@ -213,6 +247,10 @@ module _ (before after : List (List MinorField)) (old new : List Root) (refs : L
   stands_by : (k : ℕ) (x : Root) → slot_at old k ≡ x → IsMoved refs (rank old k) x (slot_at new k)
       → RootStands after (slot_at new k)
   stands_by k (root.Private r) is now = stands_now k r is now
+  stands_by k root.Null is now =
+      subst (λ (x : Root). RootStands after x) (sym now) tt
+  stands_by k (root.Num value) is now =
+      subst (λ (x : Root). RootStands after x) (sym now) tt
   stands_by k (root.Shared place) is now =
       subst (λ (x : Root). RootStands after x) (sym now) tt
 
@@ -220,21 +258,44 @@ module _ (before after : List (List MinorField)) (old new : List Root) (refs : L
       → IsMoved refs (rank old k) x (slot_at new k)
       → root_term shared after (slot_at new k) ≡ root_term shared before (slot_at old k)
   term_by shared k (root.Private r) is now = term_now k r is now shared
+  term_by shared k root.Null is now =
+      ap (root_term shared after) now ∙ sym (ap (root_term shared before) is)
+  term_by shared k (root.Num value) is now =
+      ap (root_term shared after) now ∙ sym (ap (root_term shared before) is)
   term_by shared k (root.Shared place) is now =
       ap (root_term shared after) now ∙ sym (ap (root_term shared before) is)
 
   at_or : (k n : ℕ) → (k < n) ⊎ (n ≤ k)
   at_or k n = search arith
 
-  both_past : (k : ℕ) → length old ≤ k → slot_at new k ≡ root.Shared 0
+  both_past : (k : ℕ) → length old ≤ k → slot_at new k ≡ root.Null
   both_past k le = past new k (omega (arith, le, moved.many))
 
-  same_place : (k place : ℕ) → slot_at old k ≡ root.Shared place
-      → slot_at new k ≡ root.Shared place
-  same_place k place is = ⊎_elim
-      (λ (lt : k < length old).
-      subst (λ (x : Root). IsMoved refs (rank old k) x (slot_at new k)) is (moved.moved k lt))
-      (λ (le : length old ≤ k). both_past k le ∙ sym (past old k le) ∙ is)
+  same_by : (k : ℕ) (x : Root) → slot_at old k ≡ x → IsMoved refs (rank old k) x (slot_at new k)
+      → (IsPrivate x → ⊥) → slot_at new k ≡ slot_at old k
+  same_by k root.Null is now not = now ∙ sym is
+  same_by k (root.Num value) is now not = now ∙ sym is
+  same_by k (root.Private r) is now not = absurd (not tt)
+  same_by k (root.Shared place) is now not = now ∙ sym is
+
+  same_other : (k : ℕ) → (IsPrivate (slot_at old k) → ⊥) → slot_at new k ≡ slot_at old k
+  same_other k not = ⊎_elim
+      (λ (lt : k < length old). same_by k (slot_at old k) refl (moved.moved k lt) not)
+      (λ (le : length old ≤ k). both_past k le ∙ sym (past old k le))
+      (at_or k (length old))
+
+  private_by : (k : ℕ) (x : Root) → IsMoved refs (rank old k) x (slot_at new k) → IsPrivate x
+      → IsPrivate (slot_at new k)
+  private_by k root.Null now is = absurd is
+  private_by k (root.Num value) now is = absurd is
+  private_by k (root.Private r) now is = subst (λ (x : Root). IsPrivate x) (sym now) tt
+  private_by k (root.Shared place) now is = absurd is
+
+  still_private : (k : ℕ) → IsPrivate (slot_at old k) → IsPrivate (slot_at new k)
+  still_private k is = ⊎_elim
+      (λ (lt : k < length old). private_by k (slot_at old k) (moved.moved k lt) is)
+      (λ (le : length old ≤ k).
+      absurd (subst (λ (x : Root). IsPrivate x) (past old k le) is))
       (at_or k (length old))
 
   pub roots_keep : RootsKeep before old after new
@@ -251,5 +312,6 @@ module _ (before after : List (List MinorField)) (old new : List Root) (refs : L
         ap (root_term shared after) (both_past k le)
         ∙ sym (ap (root_term shared before) (past old k le)))
         (at_or k (length old));
-    places = same_place;
+    private = still_private;
+    others = same_other;
   }

@@ -1,6 +1,6 @@
 -- Private roots that stand: through a push, a pop, another root in a place, and a new record.
 use Rattle.std.proofs.Common.{◌++◌, ◌∷◌, ℕ, zero, suc, List, [], length-append, arith}
-use Rattle.std.specs.Prelude.{slice_set}
+use Rattle.std.specs.Prelude.{slice_set, take}
 use Rattle.minor_heap.specs.declared.fields.MinorField.{MinorField}
 use Rattle.local_references.specs.declared.roots.Root.{Root}
 use Rattle.local_references.specs.declared.roots.Root.TheVariants as root
@@ -21,6 +21,14 @@ stand_popped records (y ∷ roots) x stand zero = stand zero
 stand_popped records (y ∷ roots) x stand (suc k) =
     stand_popped records roots x (λ j. stand (suc j)) k
 
+pub stand_cut : (records : List (List MinorField)) (roots : List Root) (n : ℕ)
+    → AllStand records roots → AllStand records (take n roots)
+stand_cut records roots zero stand k = tt
+stand_cut records [] (suc n) stand k = tt
+stand_cut records (y ∷ roots) (suc n) stand zero = stand zero
+stand_cut records (y ∷ roots) (suc n) stand (suc k) =
+    stand_cut records roots n (λ j. stand (suc j)) k
+
 pub stand_set : (records : List (List MinorField)) (roots : List Root) (i : ℕ) (x : Root)
     → AllStand records roots → RootStands records x → AllStand records (slice_set roots i x)
 stand_set records [] i x stand is k = tt
@@ -34,6 +42,8 @@ still : (records : List (List MinorField)) (fields : List MinorField) (x : Root)
     → RootStands records x → RootStands (records ++ fields ∷ []) x
 still records fields (root.Private r) is =
     let more = length-append records (fields ∷ []) in omega (arith, is, more)
+still records fields root.Null is = tt
+still records fields (root.Num value) is = tt
 still records fields (root.Shared place) is = tt
 
 pub stand_made : (records : List (List MinorField)) (fields : List MinorField) (roots : List Root)

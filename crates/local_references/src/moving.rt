@@ -1,6 +1,6 @@
 //! Roots that move: their records are taken out in order, and put back.
 ghost use Rattle.std.specs.Prelude.{◌≡◌, ◌≤◌, ◌+◌, ◌++◌, ◌∷◌, [], length, vec_capacity};
-ghost use Rattle.aged_nursery.specs.Survivors.{AreSurvivors};
+ghost use Rattle.aged_nursery.specs.Survivors.{AreSurvivors, NameNoMore};
 ghost use Rattle.local_references.specs.Roots.{AllStand, AreMoved, IsMoved, RootsKeep};
 ghost use Rattle.local_references.specs.Roots.{private_of};
 
@@ -16,7 +16,7 @@ fn take_one(root: Root, refs: &mut Vec<MinorRef>)
 {
     match root {
         Root::Private(r) => refs.push_reserved(r),
-        Root::Shared(_) => (),
+        Root::Null | Root::Num(_) | Root::Shared(_) => (),
     }
 }
 
@@ -38,7 +38,7 @@ fn records_of(root: Root) -> usize
 {
     match root {
         Root::Private(_) => 1,
-        Root::Shared(_) => 0,
+        Root::Null | Root::Num(_) | Root::Shared(_) => 0,
     }
 }
 
@@ -49,7 +49,7 @@ fn moved(root: Root, refs: &[MinorRef], next: usize) -> Root
 {
     match root {
         Root::Private(_) => Root::Private(refs[next]),
-        Root::Shared(place) => Root::Shared(place),
+        Root::Null | Root::Num(_) | Root::Shared(_) => root,
     }
 }
 
@@ -74,6 +74,7 @@ pub(crate) fn age_roots(nursery: &mut AgedNursery, slots: &mut [Root], refs: &mu
     ensures keep { RootsKeep nursery.old.heap.records slots.old nursery.new.heap.records slots.new }
     ensures survivors { AreSurvivors nursery.old.heap.records (private_of slots.old)
         nursery.new.heap.records (private_of slots.new) }
+    ensures named { NameNoMore nursery.old.heap.records nursery.new.heap.records }
     ensures many { length slots.new ≡ length slots.old }
     ensures refs { length refs.new ≡ length refs.old }
     ensures room { nursery.new.heap.room ≡ nursery.old.heap.room }

@@ -1,4 +1,5 @@
 ghost use Rattle.std.specs.Prelude.{◌≡◌, ◌≢◌, ◌+◌, ◌↔◌, IfNone, IfSome, IsErr, None, OnErr, OnOk};
+ghost use Rattle.std.specs.Prelude.{true};
 ghost use Rattle.minor_heap.specs.Nursery.{Stands};
 ghost use Rattle.local_references.specs.References.{IsCurrent};
 
@@ -67,6 +68,13 @@ impl Turns {
         } else {
             None
         }
+    }
+
+    /// Whether there is no turn after this one.
+    pub fn is_last(&self) -> bool
+        ensures last { (result ≡ true) ↔ (self.now ≡ 4294967295) }
+    {
+        self.turn == u32::MAX
     }
 
     /// The records have moved: no reference that was given so far is found any more. After so many

@@ -1,7 +1,7 @@
 //! The stack of roots.
 ghost use Rattle.std.specs.Prelude.{◌≡◌, ◌<◌, ◌+◌, ◌++◌, ◌∷◌, ◌↔◌, [], IfNone, IfOk, IfSome, IsErr};
-ghost use Rattle.std.specs.Prelude.{OnErr, OnOk, length, slice_set};
-ghost use Rattle.aged_nursery.specs.Survivors.{AreSurvivors};
+ghost use Rattle.std.specs.Prelude.{OnErr, OnOk, length, slice_set, take};
+ghost use Rattle.aged_nursery.specs.Survivors.{AreSurvivors, NameNoMore};
 ghost use Rattle.local_references.specs.Roots.{AllStand, RootsKeep, private_of, slot_at};
 
 use crate::moving::{age_roots, take_private};
@@ -15,6 +15,9 @@ use std::marker::Model;
 /// What a program keeps as a root.
 #[derive(Clone, Copy, Debug, PartialEq, Eq)]
 pub enum Root {
+    Null,
+    /// a number below 2^62
+    Num(u64),
     Private(MinorRef),
     /// a place of the held list
     Shared(usize),
@@ -27,7 +30,7 @@ pub struct StackFull;
 /// Roots, the oldest first.
 pub struct RootStack {
     slots: Vec<Root>,
-    /// empty but while the roots move
+    /// the private ones, as they were taken out last
     refs: Vec<MinorRef>,
     room: usize,
 }
@@ -51,9 +54,10 @@ impl Model for RootStack {
     ghost view = { λ s. record {
       room = s.room;
       roots = s.slots.items;
+      taken = s.refs.items;
     } };
 
-    ghost invariant = { λ s. IsStack s.slots.items s.refs.items s.room (vec_capacity s.slots)
+    ghost invariant = { λ s. IsStack s.slots.items s.room (vec_capacity s.slots)
         (vec_capacity s.refs) };
 }
 
@@ -119,6 +123,28 @@ impl RootStack {
         self.slots[i] = root;
     }
 
+    /// Lets all roots go but the first so many.
+    pub fn truncate(&mut self, kept: usize)
+        ensures first { self.new ≡ record self.old { roots = take kept self.old.roots } }
+    {
+        self.slots.truncate(kept);
+    }
+
+    /// Takes the records of the private roots out, in order. The roots stay.
+    pub fn take_private(&mut self)
+        ensures taken { self.new ≡ record self.old { taken = private_of self.old.roots } }
+    {
+        self.refs.clear();
+        take_private(self.slots.as_slice(), &mut self.refs);
+    }
+
+    /// The records that were taken out last.
+    pub fn taken(&self) -> &[MinorRef]
+        ensures taken { result.now ≡ self.now.taken }
+    {
+        self.refs.as_slice()
+    }
+
     /// Counts the turn on, and lets all private records go but those that the roots reach. The
     /// roots move with theirs.
     pub fn age(&mut self, nursery: &mut AgedNursery, turns: &mut Turns) -> Result<(), Spent>
@@ -128,6 +154,7 @@ impl RootStack {
             nursery.new.heap.records self.new.roots) }
         ensures survivors { OnOk result (AreSurvivors nursery.old.heap.records
             (private_of self.old.roots) nursery.new.heap.records (private_of self.new.roots)) }
+        ensures named { NameNoMore nursery.old.heap.records nursery.new.heap.records }
         ensures aged { OnOk result (nursery.new.aged ≡ length nursery.new.heap.records) }
         ensures turn { OnOk result (turns.new ≡ turns.old + 1) }
         ensures most { self.new.room ≡ self.old.room }
@@ -139,9 +166,8 @@ impl RootStack {
         ensures turn_stays { OnErr result (turns.new ≡ turns.old) }
     {
         turns.advance()?;
-        take_private(self.slots.as_slice(), &mut self.refs);
+        self.take_private();
         age_roots(nursery, self.slots.as_mut_slice(), self.refs.as_mut_slice());
-        self.refs.clear();
         Ok(())
     }
 }

@@ -1,5 +1,5 @@
 //! Laws on roots: the contracts of functions that do nothing.
-ghost use Rattle.std.specs.Prelude.{◌++◌, ◌∷◌, List, [], ℕ, slice_set};
+ghost use Rattle.std.specs.Prelude.{◌++◌, ◌∷◌, List, [], ℕ, slice_set, take};
 ghost use Rattle.minor_heap.specs.declared.fields.MinorField.{MinorField};
 ghost use Rattle.local_references.specs.declared.roots.Root.{Root};
 ghost use Rattle.local_references.specs.Roots.{AllStand, RootStands};
@@ -12,6 +12,8 @@ pub fn roots_of_a_stack_stand()
         → AllStand records (roots ++ root ∷ []) }
     ensures popped { (records : List (List MinorField)) (roots : List Root) (root : Root)
         → AllStand records (roots ++ root ∷ []) → AllStand records roots }
+    ensures cut { (records : List (List MinorField)) (roots : List Root) (n : ℕ)
+        → AllStand records roots → AllStand records (take n roots) }
     ensures set { (records : List (List MinorField)) (roots : List Root) (i : ℕ) (root : Root)
         → AllStand records roots → RootStands records root
         → AllStand records (slice_set roots i root) }

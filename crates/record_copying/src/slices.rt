@@ -1,5 +1,5 @@
 //! Copies of some of the records that are marked, the oldest first.
-ghost use Rattle.std.specs.Prelude.{◌≡◌, ◌<◌, ◌≤◌, ◌+◌, All, IfNone, IfSome, false, length};
+ghost use Rattle.std.specs.Prelude.{◌≡◌, ◌≢◌, ◌<◌, ◌≤◌, ◌+◌, All, IfNone, IfSome, false, length};
 ghost use Rattle.std.specs.Prelude.{slice_index_or, true, ℕ};
 ghost use Rattle.minor_heap.specs.Nursery.{IsOrdered, Stands, field_at};
 ghost use Rattle.minor_heap.specs.Spans.{AreWithin, NoneMarked};
@@ -60,6 +60,8 @@ fn copy_one<P: Keeping, C: RawCells<P>>(
         (bound heap.now seat.new)) }
     ensures none { IfNone result
         (Calm Seeking (bound heap.now seat.old) (bound heap.now seat.new)) }
+    ensures given { IfSome result (λ place. C.refusals cells.new ≡ C.refusals cells.old) }
+    ensures refused { IfNone result (C.refusals cells.new ≢ C.refusals cells.old) }
     ensures there { IfSome result (λ place. IsCopied copied.new r) }
     ensures copies { AreCopies seat.new.me.known minor.now.records copied.new places.new }
     ensures keeps { KeepCopies copied.old places.old copied.new places.new }
@@ -119,6 +121,7 @@ pub(crate) fn copy_marked<P: Keeping, C: RawCells<P>>(
     ensures grown { CopiesUpTo most (bound heap.now seat.old) (bound heap.now seat.new) }
     ensures part { result ≡ progress.Part
         → GrownBy most (bound heap.now seat.old) (bound heap.now seat.new) }
+    ensures no_cell { result ≡ progress.NoCell → C.refusals cells.new ≢ C.refusals cells.old }
     ensures done { result ≡ progress.Done → (k : ℕ) → slice_index_or marks.now k false ≡ true
         → slice_index_or copied.new k false ≡ true }
     ensures copies { AreCopies seat.new.me.known minor.now.records copied.new places.new }
@@ -178,6 +181,7 @@ pub(crate) fn copy_reached<P: Keeping, C: RawCells<P>>(
     ensures grown { CopiesUpTo most (bound heap.now seat.old) (bound heap.now seat.new) }
     ensures part { result ≡ progress.Part
         → GrownBy most (bound heap.now seat.old) (bound heap.now seat.new) }
+    ensures no_cell { result ≡ progress.NoCell → C.refusals cells.new ≢ C.refusals cells.old }
     ensures done { result ≡ progress.Done → All (IsCopied copied.new) roots.now }
     ensures shares { AllShare seat.new.me.known minor.now.records }
     ensures terms { terms_of (known_terms seat.new.me.known) minor.now.records

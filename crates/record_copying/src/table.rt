@@ -1,5 +1,5 @@
 //! Which records have their copies, and where.
-ghost use Rattle.std.specs.Prelude.{◌≡◌, ◌<◌, ◌≤◌, ◌+◌, All, IfNone, IfOk, IfSome, false, length};
+ghost use Rattle.std.specs.Prelude.{◌≡◌, ◌≢◌, ◌<◌, ◌≤◌, ◌+◌, All, IfNone, IfOk, IfSome, false, length};
 ghost use Rattle.std.specs.Prelude.{slice_index_or, true};
 ghost use Rattle.minor_heap.specs.Nursery.{Stands};
 ghost use Rattle.minor_heap.specs.Spans.{NoneMarked};
@@ -121,6 +121,8 @@ impl CopyTable {
         ensures grown { CopiesUpTo most (bound heap.now seat.old) (bound heap.now seat.new) }
         ensures part { result ≡ progress.Part
             → GrownBy most (bound heap.now seat.old) (bound heap.now seat.new) }
+        ensures no_cell { result ≡ progress.NoCell
+            → C.refusals cells.new ≢ C.refusals cells.old }
         ensures done { result ≡ progress.Done → All (IsCopied self.new.copied) roots.now }
         ensures shares { AllShare seat.new.me.known minor.now.records }
         ensures terms { terms_of (known_terms seat.new.me.known) minor.now.records

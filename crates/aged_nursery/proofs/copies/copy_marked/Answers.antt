@@ -7,6 +7,8 @@ use Rattle.minor_heap.proofs.Terms.{ordered_snoc}
 use Rattle.aged_nursery.specs.Copies.{AreCopied, moved_record}
 use Rattle.aged_nursery.proofs.Copying.{copied_next, copied_skip, moved_fits, none_more}
 use Rattle.aged_nursery.proofs.Copying.{all_ranked, one_more}
+use Rattle.aged_nursery.specs.Survivors.{NameNoMore}
+use Rattle.aged_nursery.proofs.Naming.{named_more}
 use Rattle.aged_nursery.proofs.copies.copy_marked.Goals.{then-marks-number, else-marks-number}
 use Rattle.aged_nursery.proofs.copies.copy_marked.Goals as goal
 
@@ -49,6 +51,9 @@ loop-number-preserved c =
                 (λ (rs : List (List MinorField)).
                 AreCopied old marks (slice_set numbers n w.copy-made.result.number) rs (n + 1))
                 (sym records) next);
+            named =
+                subst (λ (rs : List (List MinorField)). NameNoMore old rs) (sym records)
+                (named_more old new numbers n so.named);
             ordered =
                 subst (λ (rs : List (List MinorField)). IsOrdered 0 rs) (sym records)
                 (ordered_snoc new fields so.ordered
@@ -74,6 +79,8 @@ loop-number-preserved c =
                 (subst
                 (λ (rs : List (List MinorField)). AreCopied old marks numbers rs (n + 1))
                 (sym records) (copied_skip old marks numbers new n so.copied is));
+            named =
+                subst (λ (rs : List (List MinorField)). NameNoMore old rs) (sym records) so.named;
             ordered =
                 subst (λ (rs : List (List MinorField)). IsOrdered 0 rs) (sym records) so.ordered;
             many = omega (arith, count, more, left);

@@ -9,7 +9,7 @@ pub moved-requires : goal.moved-requires
 moved-requires c =
     let old = c.args.slots.now in
     let i = c.loop-i.i in
-    let d = root.Private record { number = 0 } in
+    let d = root.Null in
     let x = slice_index_or c.loop-i.slots i d in
     let lt : i < length old = omega (arith, c.loop-i-test.true, c.loop-i.invariant.so.many) in
     let more = next_rank old i x lt
@@ -23,7 +23,7 @@ pub overflow_add-next : goal.overflow_add-next
 overflow_add-next c =
     let old = c.args.slots.now in
     let i = c.loop-i.i in
-    let d = root.Private record { number = 0 } in
+    let d = root.Null in
     let x = slice_index_or c.loop-i.slots i d in
     let lt : i < length old = omega (arith, c.loop-i-test.true, c.loop-i.invariant.so.many) in
     let more = next_rank old i x lt
@@ -35,7 +35,7 @@ pub loop-i-preserved : goal.loop-i-preserved
 loop-i-preserved c =
     let old = c.args.slots.now in
     let i = c.loop-i.i in
-    let d = root.Private record { number = 0 } in
+    let d = root.Null in
     let x = slice_index_or c.loop-i.slots i d in
     let lt : i < length old = omega (arith, c.loop-i-test.true, c.loop-i.invariant.so.many) in
     let is = next_to_move old c.loop-i.slots c.args.refs.now i d lt c.loop-i.invariant.so in

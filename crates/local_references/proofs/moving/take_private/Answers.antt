@@ -25,10 +25,10 @@ pub loop-i-preserved : goal.loop-i-preserved
 loop-i-preserved c =
     let slots = c.args.slots.now in
     let i = c.loop-i.i in
-    let x = slice_index_or slots i (root.Private record { number = 0 }) in (
+    let x = slice_index_or slots i root.Null in (
       c.take_one.ensures.taken
           ∙ ap (λ (rs : List MinorRef). rs ++ private_of (x ∷ [])) c.loop-i.invariant.0
           ∙ sym (next_root slots i x c.loop-i-test.true
-          (at_any slots i (root.Private record { number = 0 }) c.loop-i-test.true)),
+          (at_any slots i root.Null c.loop-i-test.true)),
       c.take_one.ensures.capacity ∙ c.loop-i.invariant.1,
     )

@@ -1,4 +1,4 @@
-use Rattle.std.proofs.Common.{◌≡◌, ◌<◌, ◌≤◌, ◌+◌, ◌∙◌, ℕ, List, Bool, true, false, length, refl, sym}
+use Rattle.std.proofs.Common.{◌≡◌, ◌<◌, ◌≤◌, ◌+◌, ◌∙◌, ℕ, List, Bool, true, false, length, refl, sym, ap}
 use Rattle.std.proofs.Common.{subst, arith}
 use Rattle.std.specs.Prelude.{slice_index_or}
 use Rattle.heap_table.specs.Seats.{SeatView}
@@ -23,6 +23,7 @@ loop-number-init g c = (
   refl,
   (λ k lt is. let l = (c.requires.within (record { number = k }) is).0 in
       absurd (omega (arith, lt, l))),
+  refl,
 )
 
 pub copy_one-requires-clause-room : goal.copy_one-requires-clause-room
@@ -67,23 +68,30 @@ loop-number-preserved g c =
     let marks = c.args.marks.now in
     let first = c.args.copied.now in
     let places = c.args.places.now in
-    let Now : SeatView _ → ℕ → List Bool → List ℕ → Type 0 =
-    λ s count later further. IsBound heap s × (count ≤ c.args.most) × GrownBy count a (bound heap s)
+    let refusals = g.C.RawCells.refusals in
+    let Now : SeatView _ → ℕ → List Bool → List ℕ → ℕ → Type 0 =
+    λ s count later further refused. IsBound heap s × (count ≤ c.args.most) × GrownBy count a (bound heap s)
     × AreCopies s.me.known records later further × KeepCopies first places later further
     × (length later ≡ length first) × (length further ≡ length places)
     × ((k : ℕ) → k < n + 1 → slice_index_or marks k false ≡ true
-    → slice_index_or later k false ≡ true) in
+    → slice_index_or later k false ≡ true) × (refused ≡ refusals c.args.cells.now) in
     let here = c.if-is_due in
     elim c.if-is_due.branch [
       | then-is_due+else-count-most+in-Some w ↦
           let step = w.copy_one.ensures in
           let d = bound heap w.copy_one.new.seat in
-          subst (λ (s : SeatView _). Now s here.count here.copied here.places) (sym w.seat-is)
-          (subst (λ (m : ℕ). Now w.copy_one.new.seat m here.copied here.places) (sym w.count-is)
+          subst
+          (λ (s : SeatView _). Now s here.count here.copied here.places (refusals here.cells))
+          (sym w.seat-is)
+          (subst
+          (λ (m : ℕ). Now w.copy_one.new.seat m here.copied here.places (refusals here.cells))
+          (sym w.count-is)
           (subst (λ (cs : List Bool).
-          Now w.copy_one.new.seat (c.loop-number.count + 1) cs here.places) (sym w.copied-is)
+          Now w.copy_one.new.seat (c.loop-number.count + 1) cs here.places (refusals here.cells))
+          (sym w.copied-is)
           (subst (λ (ps : List ℕ).
-          Now w.copy_one.new.seat (c.loop-number.count + 1) w.copy_one.new.copied ps)
+          Now w.copy_one.new.seat (c.loop-number.count + 1) w.copy_one.new.copied ps
+          (refusals here.cells))
           (sym w.places-is) (
             step.seat,
             omega (arith, w.if-count-most.false, so.1),
@@ -95,14 +103,20 @@ loop-number-preserved g c =
             step.places ∙ so.6,
             done_more marks w.copy_one.new.copied n
                 (λ k lt is. (step.keeps k (so.7 k lt is)).0) (λ _. w.in-Some.ensures.there),
+            ap refusals w.cells-is ∙ w.in-Some.ensures.given ∙ so.8,
           ))))
       | else-is_due w ↦
-          subst (λ (s : SeatView _). Now s here.count here.copied here.places) (sym w.seat-is)
-          (subst (λ (m : ℕ). Now c.loop-number.seat m here.copied here.places) (sym w.count-is)
+          subst
+          (λ (s : SeatView _). Now s here.count here.copied here.places (refusals here.cells))
+          (sym w.seat-is)
+          (subst
+          (λ (m : ℕ). Now c.loop-number.seat m here.copied here.places (refusals here.cells))
+          (sym w.count-is)
           (subst (λ (cs : List Bool).
-          Now c.loop-number.seat c.loop-number.count cs here.places) (sym w.copied-is)
+          Now c.loop-number.seat c.loop-number.count cs here.places (refusals here.cells))
+          (sym w.copied-is)
           (subst (λ (ps : List ℕ).
-          Now c.loop-number.seat c.loop-number.count c.loop-number.copied ps)
+          Now c.loop-number.seat c.loop-number.count c.loop-number.copied ps (refusals here.cells))
           (sym w.places-is) (
             so.0,
             so.1,
@@ -113,6 +127,7 @@ loop-number-preserved g c =
             so.6,
             done_more marks c.loop-number.copied n so.7
                 (λ is. c.is_due.ensures.done w.if-is_due.false is),
+            ap refusals w.cells-is ∙ so.8,
           ))))
     ]
 

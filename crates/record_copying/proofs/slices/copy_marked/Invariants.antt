@@ -16,3 +16,4 @@ invariant-loop-number g l =
     × (length l.places ≡ length l.fn.places)
     × ((k : ℕ) → k < l.number → slice_index_or l.marks k false ≡ true
     → slice_index_or l.copied k false ≡ true)
+    × (g.C.RawCells.refusals l.cells ≡ g.C.RawCells.refusals l.fn.cells)

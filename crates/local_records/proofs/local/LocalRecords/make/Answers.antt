@@ -1,0 +1,24 @@
+use Rattle.std.proofs.Common.{◌++◌, ◌∷◌, ◌∙◌, [], List, ap, length, subst, sym}
+use Rattle.minor_heap.specs.declared.fields.MinorField.{MinorField}
+use Rattle.minor_heap.specs.Nursery.{Nursery}
+use Rattle.minor_heap.specs.Record.{fields_of}
+use Rattle.local_records.specs.Local.{AreLocal, IsLocal, Local}
+use Rattle.local_records.proofs.Keeping.{local_made}
+use Rattle.local_records.proofs.Naming.{fields_known}
+use Rattle.local_records.proofs.local.LocalRecords.make.Goals as goal
+
+pub returns-in-Ok-clause-local : goal.returns-in-Ok-clause-local
+returns-in-Ok-clause-local c known so shares =
+    let was = subst (λ (l : Local). IsLocal l known) (sym c.self.view_is) so in
+    let fields = fields_of c.args.kinds c.args.words in
+    let next = c.named_with-named.result in
+    let within = c.named_with-named.ensures.least (length known) was.within
+    (fields_known known fields shares) in
+    subst
+    (λ (rs : List (List MinorField)).
+    AreLocal known next rs c.self.inside.table.copied c.self.inside.table.places c.self.inside.stack.roots)
+    (sym (c.in-Ok.ensures.records
+    ∙ ap (λ (h : Nursery). h.records ++ fields ∷ []) c.heap_mut.ensures.heap))
+    (local_made known c.self.inside.named c.self.inside.nursery.heap.records c.self.inside.table.copied
+    c.self.inside.table.places c.self.inside.stack.roots was next c.named_with-named.ensures.more within fields
+    shares c.named_with-named.ensures.below)

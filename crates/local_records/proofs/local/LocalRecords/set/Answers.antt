@@ -1,0 +1,21 @@
+use Rattle.std.proofs.Common.{All, List, ap, length, subst, sym}
+use Rattle.local_references.specs.declared.roots.Root.{Root}
+use Rattle.local_references.specs.Roots.{Stack}
+use Rattle.local_records.specs.Local.{IsLocal, IsRootBelow, Local}
+use Rattle.local_records.proofs.Keeping.{local_roots}
+use Rattle.local_records.proofs.Naming.{root_wider, roots_set}
+use Rattle.local_records.proofs.local.LocalRecords.set.Goals as goal
+
+pub returns-clause-local : goal.returns-clause-local
+returns-clause-local c known so le =
+    let was = subst (λ (l : Local). IsLocal l known) (sym c.self.view_is) so in
+    let next = c.named_with-self-inside.result in
+    let within = c.named_with-self-inside.ensures.least (length known) was.within
+    (root_wider c.args.held (length known) c.args.root le c.requires.there) in
+    local_roots known c.self.inside.named c.self.inside.nursery.heap.records c.self.inside.table.copied
+    c.self.inside.table.places c.self.inside.stack.roots was next c.named_with-self-inside.ensures.more within
+    c.set.new.self.roots
+    (subst (λ (xs : List Root). All (IsRootBelow next) xs)
+    (sym (ap (λ (s : Stack). s.roots) c.set.ensures.set))
+    (roots_set c.self.inside.named next c.self.inside.stack.roots c.args.i c.args.root
+    c.named_with-self-inside.ensures.more was.below c.named_with-self-inside.ensures.below))
