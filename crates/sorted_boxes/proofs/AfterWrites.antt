@@ -1,5 +1,5 @@
--- What a write leaves of open places: a store, the read and exchange in its place, or an exchange.
-use Rattle.std.proofs.Common.{◌≡◌, ◌<◌, ◌≤◌, ℕ, List, [], true, length, inl, inr, sym, ◌∙◌, ap}
+-- What a write leaves of places: a store, the read and exchange in its place, or an exchange.
+use Rattle.std.proofs.Common.{◌≡◌, ◌<◌, ℕ, List, [], true, length, inl, inr, sym, ◌∙◌, ap}
 use Rattle.std.proofs.Common.{arith}
 use Rattle.std.proofs.lemmas.List.{append-nil}
 use Rattle.cell_words.specs.declared.fields.Field.{Field}
@@ -9,7 +9,7 @@ use Rattle.heap_rule.specs.Steps.{same_pass}
 use Rattle.heap_rule.specs.declared.known.Known.{Known}
 use Rattle.heap_rule.specs.declared.known.Known.TheVariants as knows
 use Rattle.heap_rule.proofs.Many.{known_many}
-use Rattle.held_places.specs.Calls.{Overwrote, StillKnown, known_fresh}
+use Rattle.held_places.specs.Calls.{Overwrote, known_fresh, settled}
 use Rattle.held_places.proofs.Going.{target_still}
 use Rattle.held_places.proofs.Overwriting.{exchanged, overwrote}
 use Rattle.held_places.proofs.Writing.{wrote_goes, wrote_known}
@@ -18,36 +18,28 @@ use Rattle.mutator_seat.specs.Bound.{Bound, held_cells}
 use Rattle.mutator_seat.specs.Stretches.{SamePlaces}
 use Rattle.mutator_seat.specs.Writes.{IsNamed, Updated}
 use Rattle.mutator_seat.proofs.Writes.{many_same}
-use Rattle.sorted_rule.specs.Open.{IsOpen, KnownOfSort}
+use Rattle.record_copying.specs.Copies.{StillRecords}
 use Rattle.sorted_rule.specs.Sorted.{HoldsSorted}
-use Rattle.sorted_rule.specs.Sorts.{Boxes}
 use Rattle.sorted_rule.specs.declared.sorting.Sorting.{Sorting}
 use Rattle.sorted_boxes.specs.Calls.{KeepsPlaces, Refused, Stored}
-use Rattle.sorted_boxes.specs.Holding.{HoldsAtLeast, HoldsFirst}
-use Rattle.sorted_boxes.proofs.Carrying.{open_lasts}
-use Rattle.sorted_boxes.proofs.Giving.{open_box_known}
-use Rattle.sorted_boxes.proofs.Holding.{holds_same}
+use Rattle.sorted_boxes.specs.Holding.{HoldsFirst}
+use Rattle.sorted_boxes.specs.Sorts.{SortList, sort_in}
+use Rattle.sorted_boxes.proofs.Carrying.{StillSettled, as_lasts, still_records}
+use Rattle.sorted_boxes.proofs.Holding.{serves_on}
 
--- a box that others may know is not fresh
-pub box_not_fresh : (k : Known) → KnownOfSort Boxes k → known_fresh k ≡ true → ⊥
-box_not_fresh (knows.Boxed told) is fresh = absurd cc
-box_not_fresh knows.Nothing is fresh = absurd is
-box_not_fresh (knows.Raw fields) is fresh = absurd is
-box_not_fresh (knows.Fresh fields) is fresh = absurd is
-box_not_fresh (knows.Record t) is fresh = absurd is
-
--- What an open place has is known still.
-abbrev pub StillOpen : Bound Sorting → Bound Sorting → Type 0
-StillOpen a b = (place : ℕ) → 1 ≤ place → place < length a.seat.me.own.held
-    → IsOpen a.seat.me place
-    → StillKnown no_field_is_fixed (known_of a.seat.me place) (known_of b.seat.me place)
+-- what is settled is not fresh
+pub settled_not_fresh : (k : Known) → settled k ≡ true → known_fresh k ≡ true → ⊥
+settled_not_fresh (knows.Boxed told) is fresh = absurd cc
+settled_not_fresh knows.Nothing is fresh = absurd cc
+settled_not_fresh (knows.Raw fields) is fresh = absurd cc
+settled_not_fresh (knows.Fresh fields) is fresh = absurd cc
+settled_not_fresh (knows.Record t) is fresh = absurd cc
 
 module _ (a b : Bound Sorting) (place f : ℕ) (value : Value)
     (there : place < length a.seat.me.own.held) (named : IsNamed a.seat.me.own.held value) where
-  wrote_still : Overwrote no_field_is_fixed a b place value → StillOpen a b
-  wrote_still wrote other some lt is =
-      let not = box_not_fresh (known_of a.seat.me other)
-      (open_box_known a.seat.me other some is) in
+  wrote_still : Overwrote no_field_is_fixed a b place value → StillSettled a b
+  wrote_still wrote other lt is =
+      let not = settled_not_fresh (known_of a.seat.me other) is in
       wrote.known other lt (λ fresh. absurd (not fresh)) (λ fresh. absurd (not fresh))
 
   stored_wrote : Stored place f value a b → Overwrote no_field_is_fixed a b place value
@@ -62,10 +54,10 @@ module _ (a b : Bound Sorting) (place f : ℕ) (value : Value)
   stored_pass (inl stored) = stored.pass
   stored_pass (inr other) = other.1.pass
 
-  pub stored_still : Stored place f value a b → StillOpen a b
+  pub stored_still : Stored place f value a b → StillSettled a b
   stored_still stored = wrote_still (stored_wrote stored)
 
-  pub refused_still : Refused place f value a b → StillOpen a b
+  pub refused_still : Refused place f value a b → StillSettled a b
   refused_still refused = wrote_still (refused_wrote refused)
 
   module _ (same : SamePlaces a b) where
@@ -93,10 +85,9 @@ module _ (a b : Bound Sorting) (place f : ℕ) (old new : Value) (found : Field)
       wrote.event.mine
       ∙ many_same wrote.at.seat.me.own.held a.seat.me.own.held kept.held
 
-  pub updated_still : StillOpen a b
-  updated_still other some lt is =
-      let not = box_not_fresh (known_of a.seat.me other)
-      (open_box_known a.seat.me other some is) in
+  pub updated_still : StillSettled a b
+  updated_still other lt is =
+      let not = settled_not_fresh (known_of a.seat.me other) is in
       wrote_known no_field_is_fixed HoldsSorted same_pass a b place f old new found wrote
       many_known other lt (λ fresh. absurd (not fresh)) (λ fresh. absurd (not fresh))
 
@@ -107,23 +98,22 @@ module _ (a b : Bound Sorting) (place f : ℕ) (old new : Value) (found : Field)
     pass = wrote.pass;
   }
 
--- So all places are open on, and the first ones.
-module _ (a b : Bound Sorting) (keeps : KeepsPlaces a b) (still : StillOpen a b) where
-  pub kept_holds : (least : ℕ) → HoldsAtLeast least a.seat.me → HoldsAtLeast least b.seat.me
-  kept_holds least at =
-      holds_same least a b keeps.held keeps.goes.inside
-      (λ place some lt. still place some lt (at.opened place lt)) at
+  pub updated_records : StillRecords a.seat.me.known b.seat.me.known
+  updated_records = still_records a b updated_still many_known
 
-  pub kept_first : (n : ℕ) → HoldsFirst n a.seat.me → HoldsFirst n b.seat.me
-  kept_first n at =
-      let long = many_same b.seat.me.own.held a.seat.me.own.held keeps.held in
-      let within : (place : ℕ) → place < n → place < length a.seat.me.own.held =
-      (λ place lt. let fit = at.fit in omega (arith, fit, lt)) in
-      record {
-        inside = keeps.goes.inside ∙ at.inside;
-        fit = let fit = at.fit in omega (arith, fit, long);
-        opened = λ place lt. open_lasts a.seat.me b.seat.me place
-            (target_still a b [] (keeps.held ∙ sym (append-nil (held_cells a))) place
-            (within place lt))
-            (λ some. still place some (within place lt) (at.opened place lt)) (at.opened place lt);
-      }
+-- So the first places are held as they were.
+pub kept_first : (a b : Bound Sorting) → KeepsPlaces a b → StillSettled a b → (n : ℕ)
+    → (sorts : SortList) → HoldsFirst n sorts a.seat.me → HoldsFirst n sorts b.seat.me
+kept_first a b keeps still n sorts at =
+    let long = many_same b.seat.me.own.held a.seat.me.own.held keeps.held in
+    let within : (place : ℕ) → place < n → place < length a.seat.me.own.held =
+    (λ place lt. let fit = at.fit in omega (arith, fit, lt)) in
+    record {
+      inside = keeps.goes.inside ∙ at.inside;
+      serves = serves_on sorts a.seat.me b.seat.me keeps.goes.room keeps.pass at.serves;
+      fit = let fit = at.fit in omega (arith, fit, long);
+      each = λ place lt. as_lasts a.seat.me b.seat.me place (sort_in sorts place)
+          (target_still a b [] (keeps.held ∙ sym (append-nil (held_cells a))) place
+          (within place lt))
+          (still place (within place lt)) (at.each place lt);
+    }

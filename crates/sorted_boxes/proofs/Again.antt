@@ -1,15 +1,12 @@
 -- A call that keeps all places leaves what the next one needs.
-use Rattle.std.proofs.Common.{◌≡◌, ◌<◌, ℕ, length, refl, ◌∙◌, ap, arith}
+use Rattle.std.proofs.Common.{◌≡◌, ◌<◌, ℕ, length, refl, sym, ◌∙◌, subst, arith}
 use Rattle.held_places.proofs.Going.{goes_none, goes_then}
 use Rattle.mutator_events.specs.declared.values.Value.{Value}
-use Rattle.mutator_events.specs.declared.values.Value.TheVariants as values
 use Rattle.mutator_seat.specs.Bound.{Bound}
 use Rattle.mutator_seat.proofs.Writes.{many_same}
-use Rattle.sorted_rule.specs.Open.{sort_at}
-use Rattle.sorted_rule.specs.Sorts.{Sort, sort_of}
 use Rattle.sorted_rule.specs.declared.sorting.Sorting.{Sorting}
 use Rattle.sorted_boxes.specs.Calls.{KeepsPlaces}
-use Rattle.sorted_boxes.specs.Holding.{IsOpenValue}
+use Rattle.sorted_boxes.specs.Sorts.{IsValue}
 
 pub keeps_none : (a : Bound Sorting) → KeepsPlaces a a
 keeps_none a = record { goes = goes_none a; held = refl; pass = refl }
@@ -34,12 +31,7 @@ module _ (a b : Bound Sorting) (keeps : KeepsPlaces a b) where
   room_again room =
       let many = many_again in let same = keeps.goes.room in omega (arith, room, many, same)
 
-  pub sort_again : (place f : ℕ) (sort : Sort) → sort_at a.seat.me place f ≡ sort
-      → sort_at b.seat.me place f ≡ sort
-  sort_again place f sort is =
-      ap (λ (p : Sorting). sort_of p.boxes place f) keeps.pass ∙ is
-
-  pub value_again : (value : Value) → IsOpenValue a.seat.me value → IsOpenValue b.seat.me value
-  value_again values.Null is = tt
-  value_again (values.Num n) is = is
-  value_again (values.Held place) is = (is.0, there_again place is.1)
+  pub value_again : (value : Value) → IsValue (length a.seat.me.own.held) value
+      → IsValue (length b.seat.me.own.held) value
+  value_again value is =
+      subst (λ (end : ℕ). IsValue end value) (sym many_again) is

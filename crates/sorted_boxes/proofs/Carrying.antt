@@ -1,26 +1,30 @@
 -- What is known of places and of values stays so while a mutator loads a field, looks and marks.
-use Rattle.std.proofs.Common.{◌≡◌, ◌<◌, ◌≤◌, ◌++◌, ℕ, zero, suc, List, [], length, sym, ◌∙◌}
-use Rattle.std.proofs.Common.{slice_index_or, ap, subst, arith}
+use Rattle.std.proofs.Common.{◌≡◌, ◌<◌, ◌≤◌, ◌++◌, ◌∷◌, ℕ, zero, suc, true, List, [], length}
+use Rattle.std.proofs.Common.{slice_index_or, refl, sym, ◌∙◌, ap, subst, arith}
 use Rattle.std.proofs.lemmas.List.{append-nil}
 use Rattle.cell_words.specs.declared.fields.Field.{Field}
 use Rattle.cell_words.specs.declared.fields.Field.TheVariants as field
+use Rattle.cell_words.specs.Term.{Term}
 use Rattle.core_machine.specs.declared.events.Found.TheVariants as finds
 use Rattle.heap_rule.specs.Asks.{known_of, target}
+use Rattle.heap_rule.specs.Lore.{known_at}
 use Rattle.heap_rule.specs.NoRule.{no_field_is_fixed}
 use Rattle.heap_rule.specs.Steps.{same_pass}
 use Rattle.heap_rule.specs.declared.known.Known.{Known}
 use Rattle.heap_rule.specs.declared.known.Known.TheVariants as knows
 use Rattle.heap_rule.specs.declared.view.View.{View}
-use Rattle.held_places.specs.Calls.{StaysKnown, StillKnown, cells_found}
+use Rattle.held_places.specs.Calls.{StaysKnown, StillKnown, cells_found, settled}
 use Rattle.held_places.proofs.Going.{kept_known, many_held, still_then, target_still}
 use Rattle.held_places.proofs.Overwriting.{Loaded, fetched, read_here}
 use Rattle.mutator_seat.specs.Bound.{Bound, held_cells}
 use Rattle.mutator_seat.specs.Stores.{Stepped, fetch_of, read_of}
 use Rattle.mutator_seat.specs.Stretches.{Kept}
+use Rattle.record_copying.specs.Copies.{StillRecords}
 use Rattle.sorted_rule.specs.Open.{IsOpen, KnownOfSort, MayShow, MayStand, sort_at}
 use Rattle.sorted_rule.specs.Sorted.{HoldsSorted}
 use Rattle.sorted_rule.specs.Sorts.{Boxes, Records, Sort, sort_of}
 use Rattle.sorted_rule.specs.declared.sorting.Sorting.{Sorting}
+use Rattle.sorted_boxes.specs.Holding.{IsAs}
 
 -- The places of the first are held by the second too, and what was known of them is known still.
 pub record Carries (a b : Bound Sorting) : Type 0 where
@@ -91,13 +95,60 @@ sort_lasts Records (knows.Raw fields) k is still = absurd is
 sort_lasts Records (knows.Fresh fields) k is still = absurd is
 sort_lasts Records (knows.Boxed told) k is still = absurd is
 
--- an open place stays open where its cell stays and, after the first place, what is known of it
-pub open_lasts : (v w : View Sorting) (place : ℕ) → target w place ≡ target v place
-    → (1 ≤ place → StillKnown no_field_is_fixed (known_of v place) (known_of w place))
-    → IsOpen v place → IsOpen w place
-open_lasts v w zero cell known is = cell ∙ is
-open_lasts v w (suc place) cell known is =
-    sort_lasts Boxes (known_of v (suc place)) (known_of w (suc place)) is (known (omega arith))
+-- What is known as a record, or as a box that others may know, is settled.
+pub sort_settled : (sort : Sort) (k : Known) → KnownOfSort sort k → settled k ≡ true
+sort_settled Boxes (knows.Boxed told) is = refl
+sort_settled Boxes knows.Nothing is = absurd is
+sort_settled Boxes (knows.Raw fields) is = absurd is
+sort_settled Boxes (knows.Fresh fields) is = absurd is
+sort_settled Boxes (knows.Record t) is = absurd is
+sort_settled Records (knows.Record t) is = refl
+sort_settled Records knows.Nothing is = absurd is
+sort_settled Records (knows.Raw fields) is = absurd is
+sort_settled Records (knows.Fresh fields) is = absurd is
+sort_settled Records (knows.Boxed told) is = absurd is
+
+-- what is settled is still known
+abbrev pub StillSettled : Bound Sorting → Bound Sorting → Type 0
+StillSettled a b =
+    (place : ℕ) → place < length a.seat.me.own.held → settled (known_of a.seat.me place) ≡ true
+    → StillKnown no_field_is_fixed (known_of a.seat.me place) (known_of b.seat.me place)
+
+-- what is held at a place stays of its sort where its cell stays and what is known of it, if that
+-- is settled
+pub as_lasts : (v w : View Sorting) (place : ℕ) (sort : Sort) → target w place ≡ target v place
+    → (settled (known_of v place) ≡ true
+    → StillKnown no_field_is_fixed (known_of v place) (known_of w place))
+    → IsAs v place sort → IsAs w place sort
+as_lasts v w zero Boxes cell known is = cell ∙ is
+as_lasts v w (suc place) Boxes cell known is =
+    sort_lasts Boxes (known_of v (suc place)) (known_of w (suc place)) is
+    (known (sort_settled Boxes (known_of v (suc place)) is))
+as_lasts v w place Records cell known is =
+    sort_lasts Records (known_of v place) (known_of w place) is
+    (known (sort_settled Records (known_of v place) is))
+
+-- Records that are known.
+
+pub known_there : (known : List Known) (place : ℕ) (t : Term)
+    → known_at known place ≡ knows.Record t → place < length known
+known_there [] place t is = absurd cc
+known_there (k ∷ known) zero t is = omega arith
+known_there (k ∷ known) (suc place) t is =
+    let lt = known_there known place t is in omega (arith, lt)
+
+module _ (a b : Bound Sorting) (still : StillSettled a b) where
+  pub record_still : (place : ℕ) (t : Term) → place < length a.seat.me.own.held
+      → known_of a.seat.me place ≡ knows.Record t → known_of b.seat.me place ≡ knows.Record t
+  record_still place t lt is =
+      subst (λ (k : Known). StillKnown no_field_is_fixed k (known_of b.seat.me place)) is
+      (still place lt (ap settled is))
+
+  pub still_records : length a.seat.me.known ≡ length a.seat.me.own.held
+      → StillRecords a.seat.me.known b.seat.me.known
+  still_records many place t is =
+      record_still place t
+      (let lt = known_there a.seat.me.known place t is in omega (arith, lt, many)) is
 
 module _ (a b : Bound Sorting) (carries : Carries a b) where
   pub there_on : (place : ℕ) → place < length a.seat.me.own.held
@@ -107,8 +158,8 @@ module _ (a b : Bound Sorting) (carries : Carries a b) where
   pub open_on : (place : ℕ) → place < length a.seat.me.own.held → IsOpen a.seat.me place
       → IsOpen b.seat.me place
   open_on place lt is =
-      open_lasts a.seat.me b.seat.me place (carries.cells place lt)
-      (λ some. carries.known place lt) is
+      as_lasts a.seat.me b.seat.me place Boxes (carries.cells place lt)
+      (λ is_settled. carries.known place lt) is
 
   pub sort_on : (place f : ℕ) → sort_at b.seat.me place f ≡ sort_at a.seat.me place f
   sort_on place f = ap (λ (p : Sorting). sort_of p.boxes place f) carries.pass

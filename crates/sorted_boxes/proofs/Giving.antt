@@ -1,6 +1,6 @@
 -- What the calls of a mutator ask of a place that is written and of a value, from what is known of
 -- open places and of a new box.
-use Rattle.std.proofs.Common.{◌≡◌, ◌<◌, ◌≤◌, ℕ, zero, suc, true, length}
+use Rattle.std.proofs.Common.{◌≡◌, ◌<◌, ◌≤◌, ℕ, zero, suc, true, false, length}
 use Rattle.std.proofs.Common.{refl, sym, ap, subst, arith}
 use Rattle.std.proofs.lemmas.Bool.{lt-ltb}
 use Rattle.cell_making.proofs.Naming.{is_box_of, sealed_value}
@@ -16,9 +16,11 @@ use Rattle.mutator_seat.specs.Bound.{Bound, held_cells}
 use Rattle.mutator_seat.specs.Stores.{MayOverwrite}
 use Rattle.mutator_seat.specs.Writes.{IsNamed, MayUpdate}
 use Rattle.sorted_rule.specs.Open.{IsOpen, KnownOfSort, MayShow, MayStand, sort_at}
-use Rattle.sorted_rule.specs.Sorts.{Boxes, Sort}
+use Rattle.sorted_rule.specs.Sorts.{Boxes, Records, Sort, sort_of}
 use Rattle.sorted_rule.specs.declared.sorting.Sorting.{Sorting}
-use Rattle.sorted_boxes.specs.Holding.{HoldsAtLeast, IsOpenValue}
+use Rattle.sorted_boxes.specs.Holding.{HoldsAs, IsAs}
+use Rattle.sorted_boxes.specs.Sorts.{IsValue, SortList, holds_record, is_fit, sort_in}
+use Rattle.sorted_boxes.proofs.SortLists.{box_in, held_fits}
 
 -- Values.
 
@@ -26,53 +28,82 @@ use Rattle.sorted_boxes.specs.Holding.{HoldsAtLeast, IsOpenValue}
 abbrev pub MayGive : View Sorting → ℕ → ℕ → Value → Type 0
 MayGive v place f value = MayStand v (sort_at v place f) (field_at v.own.held value)
 
-box_sealed : (k : Known) → KnownOfSort Boxes k → is_sealed k ≡ true
-box_sealed (knows.Boxed told) is = refl
-box_sealed knows.Nothing is = absurd is
-box_sealed (knows.Raw fields) is = absurd is
-box_sealed (knows.Fresh fields) is = absurd is
-box_sealed (knows.Record t) is = absurd is
+sort_sealed : (sort : Sort) (k : Known) → KnownOfSort sort k → is_sealed k ≡ true
+sort_sealed Boxes (knows.Boxed told) is = refl
+sort_sealed Boxes knows.Nothing is = absurd is
+sort_sealed Boxes (knows.Raw fields) is = absurd is
+sort_sealed Boxes (knows.Fresh fields) is = absurd is
+sort_sealed Boxes (knows.Record t) is = absurd is
+sort_sealed Records (knows.Record t) is = refl
+sort_sealed Records knows.Nothing is = absurd is
+sort_sealed Records (knows.Raw fields) is = absurd is
+sort_sealed Records (knows.Fresh fields) is = absurd is
+sort_sealed Records (knows.Boxed told) is = absurd is
 
--- after the first place an open one has a box
-pub open_box_known : (v : View Sorting) (place : ℕ) → 1 ≤ place → IsOpen v place
-    → KnownOfSort Boxes (known_of v place)
-open_box_known v zero some is = absurd (omega (arith, some))
-open_box_known v (suc place) some is = is
+-- after the first place what is held is known as what its sort says
+pub as_known : (v : View Sorting) (place : ℕ) (sort : Sort) → 1 ≤ place → IsAs v place sort
+    → KnownOfSort sort (known_of v place)
+as_known v zero sort some is = absurd (omega (arith, some))
+as_known v (suc place) Boxes some is = is
+as_known v (suc place) Records some is = is
 
--- and what has a box is open
-pub box_known_open : (v : View Sorting) (place : ℕ) → 1 ≤ place
-    → KnownOfSort Boxes (known_of v place) → IsOpen v place
-box_known_open v zero some is = absurd (omega (arith, some))
-box_known_open v (suc place) some is = is
+-- and what is known so is held so
+pub known_as : (v : View Sorting) (place : ℕ) (sort : Sort) → 1 ≤ place
+    → KnownOfSort sort (known_of v place) → IsAs v place sort
+known_as v zero sort some is = absurd (omega (arith, some))
+known_as v (suc place) Boxes some is = is
+known_as v (suc place) Records some is = is
 
-module _ (least : ℕ) (m : Bound Sorting) (at : HoldsAtLeast least m.seat.me) where
-  pub open_named : (value : Value) → IsOpenValue m.seat.me value → IsNamed m.seat.me.own.held value
-  open_named values.Null is = tt
-  open_named (values.Num n) is = lt-ltb n 4611686018427387904 is
-  open_named (values.Held place) is = is.1
+pub value_named : (m : Bound Sorting) (value : Value) → IsValue (length m.seat.me.own.held) value
+    → IsNamed m.seat.me.own.held value
+value_named m values.Null is = tt
+value_named m (values.Num n) is = lt-ltb n 4611686018427387904 is
+value_named m (values.Held place) is = is.1
 
-  pub open_stands : (value : Value) → IsOpenValue m.seat.me value
-      → MayStand m.seat.me Boxes (field_at m.seat.me.own.held value)
-  open_stands values.Null is = tt
-  open_stands (values.Num n) is = tt
-  open_stands (values.Held place) is = (
+module _ (sorts : SortList) (m : Bound Sorting) (at : HoldsAs sorts m.seat.me) where
+  -- where no record is held there is an open place
+  pub box_open : (place : ℕ) → place < length m.seat.me.own.held
+      → holds_record sorts place ≡ false → IsOpen m.seat.me place
+  box_open place lt boxed =
+      subst (λ (sort : Sort). IsAs m.seat.me place sort) (box_in sorts place boxed)
+      (at.each place lt)
+
+  pub held_known : (place : ℕ) → 1 ≤ place → place < length m.seat.me.own.held
+      → KnownOfSort (sort_in sorts place) (known_of m.seat.me place)
+  held_known place some lt =
+      as_known m.seat.me place (sort_in sorts place) some (at.each place lt)
+
+  value_stands : (sort : Sort) (value : Value) → IsValue (length m.seat.me.own.held) value
+      → is_fit sorts sort value ≡ true
+      → MayStand m.seat.me sort (field_at m.seat.me.own.held value)
+  value_stands sort values.Null is fits = tt
+  value_stands sort (values.Num n) is fits = tt
+  value_stands sort (values.Held place) is fits = (
     place,
-    (is.1, (refl, open_box_known m.seat.me place is.0 (at.opened place is.1))),
+    (
+      is.1,
+      (
+        refl,
+        subst (λ (s : Sort). KnownOfSort s (known_of m.seat.me place))
+            (held_fits sorts sort place fits) (held_known place is.0 is.1),
+      ),
+    ),
   )
 
-  pub open_sealed : (value : Value) → IsOpenValue m.seat.me value
+  pub value_sealed : (value : Value) → IsValue (length m.seat.me.own.held) value
       → IsSealedValue (held_cells m) m.seat.me.known (field_at m.seat.me.own.held value)
-  open_sealed values.Null is = tt
-  open_sealed (values.Num n) is = tt
-  open_sealed (values.Held place) is =
-      sealed_value m place is.1 (box_sealed (known_of m.seat.me place)
-      (open_box_known m.seat.me place is.0 (at.opened place is.1)))
+  value_sealed values.Null is = tt
+  value_sealed (values.Num n) is = tt
+  value_sealed (values.Held place) is =
+      sealed_value m place is.1 (sort_sealed (sort_in sorts place) (known_of m.seat.me place)
+      (held_known place is.0 is.1))
 
-  pub open_gives : (place f : ℕ) → sort_at m.seat.me place f ≡ Boxes → (value : Value)
-      → IsOpenValue m.seat.me value → MayGive m.seat.me place f value
-  open_gives place f sort_is value is =
-      subst (λ (sort : Sort). MayStand m.seat.me sort (field_at m.seat.me.own.held value))
-      (sym sort_is) (open_stands value is)
+  pub value_gives : (place f : ℕ) (value : Value) → IsValue (length m.seat.me.own.held) value
+      → is_fit sorts (sort_of sorts.boxes place f) value ≡ true → MayGive m.seat.me place f value
+  value_gives place f value is fits =
+      subst (λ (boxes : ℕ). MayStand m.seat.me (sort_of boxes place f)
+      (field_at m.seat.me.own.held value)) at.serves.boxes
+      (value_stands (sort_of sorts.boxes place f) value is fits)
 
 pub new_sealed : (m : Bound Sorting) (fresh : ℕ) → MayShow m.seat.me fresh
     → IsSealedValue (held_cells m) m.seat.me.known

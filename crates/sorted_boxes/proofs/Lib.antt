@@ -3,9 +3,10 @@ pub mod Again
 pub mod Carrying
 pub mod FiveReads
 pub mod Giving
+pub mod HeldCopies
 pub mod Holding
 pub mod Narrowing
 pub mod NewBoxes
 pub mod Picks
 pub mod Shown
-pub mod Sorts
+pub mod SortLists

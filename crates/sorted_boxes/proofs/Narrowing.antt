@@ -1,26 +1,33 @@
 -- Keeping the first places, and then some of the others.
-use Rattle.std.proofs.Common.{◌≡◌, ◌<◌, ◌≤◌, ◌+◌, ◌-◌, ◌⊎◌, ◌++◌, ℕ, zero, suc, true, List, []}
+use Rattle.std.proofs.Common.{◌≡◌, ◌<◌, ◌≤◌, ◌+◌, ◌-◌, ◌⊎◌, ◌++◌, ℕ, false, List, []}
 use Rattle.std.proofs.Common.{length, get_or, take, drop, inl, inr, refl, sym, ◌∙◌, ap, subst, arith}
+use Rattle.std.specs.List.{CopiedTo, SameBelow}
 use Rattle.std.proofs.lemmas.Bool.{cases_lt}
-use Rattle.std.proofs.lemmas.List.{get_or-append_right, get_or-drop, get_or-take}
+use Rattle.std.proofs.lemmas.List.{append-nil, get_or-append_right, get_or-drop, get_or-take}
 use Rattle.std.proofs.lemmas.List.{get_or_append_left, length-append, length-drop, length-take-le}
 use Rattle.core_machine.specs.declared.events.Event.TheVariants as event
 use Rattle.core_machine.specs.declared.events.Found.{Found}
 use Rattle.heap_rule.specs.Asks.{known_of, target}
 use Rattle.heap_rule.specs.Lore.{known_at, nothing_learned}
+use Rattle.heap_rule.specs.NoRule.{no_field_is_fixed}
 use Rattle.heap_rule.specs.declared.known.Known.{Known}
 use Rattle.heap_rule.specs.declared.known.Known.TheVariants as knows
+use Rattle.heap_rule.specs.declared.view.View.{View}
 use Rattle.heap_rule.proofs.Reading.{cell_there}
-use Rattle.held_places.proofs.Going.{goes_told, many_cells}
+use Rattle.held_places.specs.Calls.{StillKnown}
+use Rattle.held_places.proofs.Going.{goes_told, many_cells, still_same}
 use Rattle.mutator_events.proofs.HeldCells.{cells_kept_are}
 use Rattle.mutator_seat.specs.Bound.{Bound, held_cells, takes}
 use Rattle.trails.specs.Asks.{nothing}
-use Rattle.sorted_rule.specs.Open.{IsOpen, KnownOfSort}
-use Rattle.sorted_rule.specs.Sorts.{Boxes}
+use Rattle.sorted_rule.specs.Open.{KnownOfSort}
+use Rattle.sorted_rule.specs.Sorts.{Sort}
 use Rattle.sorted_rule.specs.declared.sorting.Sorting.{Sorting}
-use Rattle.sorted_boxes.specs.Calls.{Narrows}
-use Rattle.sorted_boxes.specs.Holding.{HoldsAtLeast}
-use Rattle.sorted_boxes.proofs.Giving.{open_box_known}
+use Rattle.sorted_boxes.specs.Calls.{Drops, KeepsRecords, Narrows}
+use Rattle.sorted_boxes.specs.Holding.{HoldsAs, HoldsFirst, IsAs}
+use Rattle.sorted_boxes.specs.Sorts.{Serves, SortList, sort_as, sort_in}
+use Rattle.sorted_boxes.proofs.Carrying.{as_lasts}
+use Rattle.sorted_boxes.proofs.Giving.{as_known, known_as}
+use Rattle.sorted_boxes.proofs.Holding.{same_list, serves_on, sort_below}
 
 module _ {A : Type 0} (xs : List A) (n place count : ℕ) (fit : n ≤ length xs) where
   abbrev kept : List A
@@ -115,41 +122,95 @@ module _ (b c : Bound Sorting) (n place count : ℕ) (p : Found)
           ∙ kept_behind (held_cells b) n place count fit_cells i 0 behind lt
           ∙ cell_there b.seat.me.own.held (place + (i - n))
 
-      -- What is kept was open: the first places, and of the others boxes.
-      module _ (some : 1 ≤ n) (first : (i : ℕ) → i < n → IsOpen b.seat.me i)
-          (others : (i : ℕ) → place ≤ i → i < place + count
-          → KnownOfSort Boxes (known_of b.seat.me i)) where
-        box_behind : (i : ℕ) → n ≤ i → i < n + count → KnownOfSort Boxes (known_of c.seat.me i)
-        box_behind i behind lt =
-            subst (λ (k : Known). KnownOfSort Boxes k) (sym (known_behind i behind lt))
-            (others (place + (i - n)) (omega arith) (omega (arith, behind, lt)))
+      -- The first places have what they had, by a list that agrees with the other up to there.
+      first_as : (old new : SortList) → SameBelow old.records new.records n → (i : ℕ) → i < n
+          → IsAs b.seat.me i (sort_in old i) → IsAs c.seat.me i (sort_in new i)
+      first_as old new same i lt is =
+          subst (λ (sort : Sort). IsAs c.seat.me i sort) (sym (sort_below old new n i same lt))
+          (as_lasts b.seat.me c.seat.me i (sort_in old i) (cell_before i lt)
+          (λ is_settled.
+          subst (λ (k : Known). StillKnown no_field_is_fixed (known_of b.seat.me i) k)
+          (sym (known_before i lt)) (still_same no_field_is_fixed (known_of b.seat.me i))) is)
 
-        kept_open : (i : ℕ) → i < n + count → IsOpen c.seat.me i
-        kept_open zero lt = cell_before 0 some ∙ first 0 some
-        kept_open (suc i) lt = elim (cases_lt (suc i) n) [
+      pub first_records : KeepsRecords n b.seat.me.known c.seat.me.known
+      first_records i t lt is = known_before i lt ∙ is
+
+      -- Others, which stand after the anchor's.
+      module _ (some : 1 ≤ n) (placed : (1 ≤ place) ⊎ (count ≡ 0)) (old new : SortList)
+          (serves : Serves new b.seat.me) (same : SameBelow old.records new.records n)
+          (moved : CopiedTo old.records new.records place n count)
+          (at : HoldsAs old b.seat.me) where
+        some_place : (1 ≤ place) ⊎ (count ≡ 0) → (i : ℕ) → n ≤ i → i < n + count
+            → 1 ≤ place + (i - n)
+        some_place (inl is) i le lt = omega (arith, is)
+        some_place (inr none) i le lt = absurd (omega (arith, none, le, lt))
+
+        moved_sort : (i : ℕ) → n ≤ i → i < n + count → sort_in new i ≡ sort_in old (place + (i - n))
+        moved_sort i le lt = ap sort_as (moved i false le lt)
+
+        others_as : (i : ℕ) → n ≤ i → i < n + count → IsAs c.seat.me i (sort_in new i)
+        others_as i le lt =
+            let there : place + (i - n) < length b.seat.me.own.held = omega (arith, from, le, lt) in
+            subst (λ (sort : Sort). IsAs c.seat.me i sort) (sym (moved_sort i le lt))
+            (known_as c.seat.me i (sort_in old (place + (i - n))) (omega (arith, some, le))
+            (subst (λ (k : Known). KnownOfSort (sort_in old (place + (i - n))) k)
+            (sym (known_behind i le lt))
+            (as_known b.seat.me (place + (i - n)) (sort_in old (place + (i - n)))
+            (some_place placed i le lt) (at.each (place + (i - n)) there))))
+
+        each_as : (i : ℕ) → i < length c.seat.me.own.held → IsAs c.seat.me i (sort_in new i)
+        each_as i lt = elim (cases_lt i n) [
           | inl before ↦
-              subst (λ (k : Known). KnownOfSort Boxes k) (sym (known_before (suc i) before))
-              (first (suc i) before)
-          | inr behind ↦ box_behind (suc i) behind lt
+              first_as old new same i before (at.each i (omega (arith, before, fit)))
+          | inr behind ↦
+              others_as i behind (let so_many = narrowed_many in omega (arith, lt, so_many))
         ]
 
-        pub narrow_holds : (least : ℕ) → least ≤ n + count
-            → b.seat.me.presence.inside ≡ true → HoldsAtLeast least c.seat.me
-        narrow_holds least enough inside = record {
-          inside = narrows.goes.inside ∙ inside;
-          some = let so_many = narrowed_many in omega (arith, enough, so_many);
-          opened = λ i lt. kept_open i (let so_many = narrowed_many in omega (arith, lt, so_many));
+        pub keep_holds : HoldsAs new c.seat.me
+        keep_holds = record {
+          inside = narrows.goes.inside ∙ at.inside;
+          serves = serves_on new b.seat.me c.seat.me narrows.goes.room narrows.pass serves;
+          some = let so_many = narrowed_many in omega (arith, some, so_many);
+          each = each_as;
         }
 
-      -- of open places, where the others stand after the anchor's
-      pub keep_holds : (least before : ℕ) → least ≤ n → 1 ≤ n → (1 ≤ place) ⊎ (count ≡ 0)
-          → HoldsAtLeast before b.seat.me → HoldsAtLeast least c.seat.me
-      keep_holds least before enough some placed at =
-          narrow_holds some (λ i lt. at.opened i (omega (arith, lt, fit)))
-          (λ i le lt. open_box_known b.seat.me i (some_place placed i le lt)
-          (at.opened i (omega (arith, from, lt))))
-          least (omega (arith, enough)) at.inside
-        where
-          some_place : (1 ≤ place) ⊎ (count ≡ 0) → (i : ℕ) → place ≤ i → i < place + count → 1 ≤ i
-          some_place (inl is) i le lt = omega (arith, is, le)
-          some_place (inr none) i le lt = absurd (omega (arith, none, le, lt))
+-- The list that is kept in step serves on.
+pub kept_serves : (old new : SortList) (v : View Sorting) (n : ℕ) → 1 ≤ n
+    → new.boxes ≡ old.boxes → length new.records ≡ length old.records
+    → SameBelow old.records new.records n → Serves old v → Serves new v
+kept_serves old new v n some boxes many same serves = record {
+  room = let more = serves.room in omega (arith, more, many);
+  boxes = boxes ∙ serves.boxes;
+  anchor = same 0 false some ∙ serves.anchor;
+}
+
+-- The first places alone.
+module _ (b c : Bound Sorting) (n : ℕ) (p : Found)
+    (told : c ≡ takes b (event.Keep b.seat.me.number n 0 0) p) (some : 1 ≤ n)
+    (fit : n ≤ length b.seat.me.own.held)
+    (many : length b.seat.me.known ≡ length b.seat.me.own.held) where
+  pub cut_many : length c.seat.me.own.held ≡ n
+  cut_many =
+      let so_many = narrowed_many b c n 0 0 p told fit (omega arith) in omega (arith, so_many)
+
+  pub cut_drops : Drops n b c
+  cut_drops =
+      let narrow = narrows b c n 0 0 p told in
+      record {
+        goes = narrow.goes;
+        held = narrow.held ∙ append-nil (take n (held_cells b));
+        pass = narrow.pass;
+      }
+
+  pub cut_records : KeepsRecords n b.seat.me.known c.seat.me.known
+  cut_records = first_records b c n 0 0 p told fit (omega arith) many
+
+  pub cut_holds : (sorts : SortList) → HoldsFirst n sorts b.seat.me → HoldsAs sorts c.seat.me
+  cut_holds sorts at = record {
+    inside = cut_drops.goes.inside ∙ at.inside;
+    serves = serves_on sorts b.seat.me c.seat.me cut_drops.goes.room cut_drops.pass at.serves;
+    some = let so_many = cut_many in omega (arith, some, so_many);
+    each = λ i lt. first_as b c n 0 0 p told fit (omega arith) many sorts sorts
+        (same_list sorts n) i (let so_many = cut_many in omega (arith, lt, so_many))
+        (at.each i (let so_many = cut_many in omega (arith, lt, so_many)));
+  }

@@ -1,13 +1,17 @@
 -- What the calls tell: the events of each, and what these found.
 -- Source: this project's.
-use Rattle.std.specs.Prelude.{ℕ, ◌≡◌, ◌⊎◌, ◌++◌, [], false, List, length, take}
+use Rattle.std.specs.Prelude.{ℕ, ◌≡◌, ◌<◌, ◌⊎◌, ◌++◌, [], false, List, length, take}
 use Rattle.std.specs.Prelude.{drop, slice_set}
+use Rattle.cell_words.specs.Term.{Term}
 use Rattle.cell_words.specs.declared.fields.Field.{Field}
 use Rattle.core_machine.specs.Words.{same_field}
 use Rattle.core_machine.specs.declared.events.Event.TheVariants as event
 use Rattle.core_machine.specs.declared.events.Found.TheVariants as finds
+use Rattle.heap_rule.specs.Lore.{known_at}
 use Rattle.heap_rule.specs.NoRule.{no_field_is_fixed}
 use Rattle.heap_rule.specs.Steps.{same_pass}
+use Rattle.heap_rule.specs.declared.known.Known.{Known}
+use Rattle.heap_rule.specs.declared.known.Known.TheVariants as knows
 use Rattle.cell_making.specs.Makes.{MakesBox, value_at}
 use Rattle.held_places.specs.Calls.{Goes, WasRead}
 use Rattle.mutator_events.specs.declared.values.Value.{Value}
@@ -18,9 +22,10 @@ use Rattle.mutator_seat.specs.Bound.{Bound, held_cells}
 use Rattle.mutator_seat.specs.Claims.{Claimed}
 use Rattle.mutator_seat.specs.Stores.{Exchanged, Overwritten}
 use Rattle.mutator_seat.specs.Writes.{Updated}
-use Rattle.sorted_boxes.specs.Holding.{HoldsOpen}
 use Rattle.sorted_rule.specs.Sorted.{HoldsSorted}
 use Rattle.sorted_rule.specs.declared.sorting.Sorting.{Sorting}
+use Rattle.sorted_boxes.specs.Holding.{HoldsAs}
+use Rattle.sorted_boxes.specs.Sorts.{IsOfTheSort, SortList, sort_found}
 
 -- One read of this field of the cell at a place gave this value, which stood there at its step. A
 -- cell that it found is held at the next place.
@@ -46,6 +51,11 @@ pub record GaveAll (old : Bound Sorting) (place : ℕ) (given : List Value) (new
   pub fourth : Gave three place 3 (value_at given 3) four
   pub fifth : Gave four place 4 (value_at given 4) new
 
+-- each of five values that were read of a cell is of the sort that its field names
+abbrev pub AreOfTheirSort : SortList → ℕ → List Value → SortList → Type 0
+AreOfTheirSort sorts place given later =
+    (f : ℕ) → f < 5 → IsOfTheSort later (sort_found sorts place f) (value_at given f)
+
 module _ (place f : ℕ) (new : Value) where
   -- a store of the value, whatever was there; or a read, and an exchange of what it found for the
   -- value
@@ -70,6 +80,12 @@ module _ (place f : ℕ) (new : Value) where
     pub refused : AllRefused old from
     pub stored : Stored from after
 
+-- what was known as a record at each place below an end still is, with the same term
+abbrev pub KeepsRecords : ℕ → List Known → List Known → Type 0
+KeepsRecords end known later =
+    (place : ℕ) (t : Term) → place < end → known_at known place ≡ knows.Record t
+    → known_at later place ≡ knows.Record t
+
 -- A call leaves these cells held, and the same pass.
 pub record Leaves (cells : List ℕ) (old new : Bound Sorting) : Type 0 where
   pub goes : Goes [] old new
@@ -93,7 +109,8 @@ Drops n old new = Leaves (take n (held_cells old)) old new
 -- nobody else knows.
 pub record Sealed (place : ℕ) (given : List Value) (old new : Bound Sorting) : Type 0 where
   pub before : Bound Sorting
-  pub opened : HoldsOpen before.seat.me
+  pub sorts : SortList
+  pub all : HoldsAs sorts before.seat.me
   pub claimed : Claimed before place old
   pub makes : MakesBox before place given new
   pub goes : Goes [] old new

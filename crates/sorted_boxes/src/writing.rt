@@ -8,12 +8,14 @@ ghost use Rattle.heap_rule.specs.Steps.{same_pass};
 ghost use Rattle.mutator_events.specs.Values.{field_at};
 ghost use Rattle.mutator_seat.specs.Bound.{IsBound, bound};
 ghost use Rattle.mutator_seat.specs.Writes.{Updated};
+ghost use Rattle.record_copying.specs.Copies.{StillRecords};
 ghost use Rattle.sorted_boxes.specs.Calls.{AllRefused, KeepsPlaces, Refused, Stored, Wrote};
-ghost use Rattle.sorted_boxes.specs.Holding.{HoldsOpen, IsOpenValue};
-ghost use Rattle.sorted_rule.specs.Open.{sort_at};
+ghost use Rattle.sorted_boxes.specs.Holding.{HoldsAs};
+ghost use Rattle.sorted_boxes.specs.Sorts.{IsValue, holds_record, is_fit};
 ghost use Rattle.sorted_rule.specs.Sorted.{HoldsSorted};
-ghost use Rattle.sorted_rule.specs.Sorts.{Boxes};
+ghost use Rattle.sorted_rule.specs.Sorts.{sort_of};
 
+use crate::sorts::Sorts;
 use heap_table::CellHeap;
 use mutator_seat::{MutSeat, Value, operations};
 use sorted_rule::Sorting;
@@ -23,24 +25,27 @@ use std::marker::Brand;
 /// another thread wrote the field in between.
 const TRIES: u32 = 64;
 
-/// Stores a value in a field that names boxes, whatever is there: whether it was written. If not,
-/// each try was refused, and nothing has changed. For a moment one more place is needed.
+/// Stores a value in a field of a box, whatever is there: whether it was written. If not, each try
+/// was refused, and nothing has changed. For a moment one more place is needed.
 pub fn write(
     heap: &CellHeap<Sorting>,
     seat: &mut MutSeat<Sorting>,
+    sorts: &Sorts,
     place: usize,
     field: usize,
     value: Value,
 ) -> bool
     requires seat { IsBound heap.now seat.old }
-    requires opened { HoldsOpen seat.old.me }
+    requires held { HoldsAs sorts.now seat.old.me }
     requires there { place < length seat.old.me.own.held }
+    requires boxed { holds_record sorts.now place ≡ false }
     requires field { field ≤ 4 }
-    requires sort { sort_at seat.old.me place field ≡ Boxes }
-    requires value { IsOpenValue seat.old.me value }
+    requires value { IsValue (length seat.old.me.own.held) value }
+    requires fits { is_fit sorts.now (sort_of sorts.now.boxes place field) value ≡ true }
     requires room { length seat.old.me.own.held < seat.old.me.room }
     ensures seat { IsBound heap.now seat.new }
-    ensures opened { HoldsOpen seat.new.me }
+    ensures held { HoldsAs sorts.now seat.new.me }
+    ensures records { StillRecords seat.old.me.known seat.new.me.known }
     ensures keeps { KeepsPlaces (bound heap.now seat.old) (bound heap.now seat.new) }
     ensures wrote { OnTrue result (Wrote place field value (bound heap.now seat.old)
         (bound heap.now seat.new)) }
@@ -48,7 +53,7 @@ pub fn write(
         (bound heap.now seat.new)) }
 {
     for _tried in 0..TRIES {
-        if write_once(heap, seat, place, field, value) {
+        if write_once(heap, seat, sorts, place, field, value) {
             return true;
         }
     }
@@ -59,50 +64,58 @@ pub fn write(
 fn write_once(
     heap: &CellHeap<Sorting>,
     seat: &mut MutSeat<Sorting>,
+    sorts: &Sorts,
     place: usize,
     field: usize,
     value: Value,
 ) -> bool
     requires seat { IsBound heap.now seat.old }
-    requires opened { HoldsOpen seat.old.me }
+    requires held { HoldsAs sorts.now seat.old.me }
     requires there { place < length seat.old.me.own.held }
+    requires boxed { holds_record sorts.now place ≡ false }
     requires field { field ≤ 4 }
-    requires sort { sort_at seat.old.me place field ≡ Boxes }
-    requires value { IsOpenValue seat.old.me value }
+    requires value { IsValue (length seat.old.me.own.held) value }
+    requires fits { is_fit sorts.now (sort_of sorts.now.boxes place field) value ≡ true }
     requires room { length seat.old.me.own.held < seat.old.me.room }
     ensures seat { IsBound heap.now seat.new }
-    ensures opened { HoldsOpen seat.new.me }
+    ensures held { HoldsAs sorts.now seat.new.me }
+    ensures records { StillRecords seat.old.me.known seat.new.me.known }
     ensures keeps { KeepsPlaces (bound heap.now seat.old) (bound heap.now seat.new) }
     ensures stored { OnTrue result (Stored place field value (bound heap.now seat.old)
         (bound heap.now seat.new)) }
     ensures refused { OnFalse result (Refused place field value (bound heap.now seat.old)
         (bound heap.now seat.new)) }
 {
+    // As much is known as there are places.
+    let _held = seat.held_len();
     match operations::store::<Sorting, Brand, Brand>(heap, seat, place, field, value) {
         Ok(()) => true,
         Err(_) => false,
     }
 }
 
-/// Exchanges what a field that names boxes holds for another value, if it holds the expected one:
-/// whether it did. One compare and exchange; no place more is needed.
+/// Exchanges what a field of a box holds for another value, if it holds the expected one: whether
+/// it did. One compare and exchange; no place more is needed.
 pub fn swap(
     heap: &CellHeap<Sorting>,
     seat: &mut MutSeat<Sorting>,
+    sorts: &Sorts,
     place: usize,
     field: usize,
     expected: Value,
     value: Value,
 ) -> bool
     requires seat { IsBound heap.now seat.old }
-    requires opened { HoldsOpen seat.old.me }
+    requires held { HoldsAs sorts.now seat.old.me }
     requires there { place < length seat.old.me.own.held }
+    requires boxed { holds_record sorts.now place ≡ false }
     requires field { field ≤ 4 }
-    requires sort { sort_at seat.old.me place field ≡ Boxes }
-    requires expected { IsOpenValue seat.old.me expected }
-    requires value { IsOpenValue seat.old.me value }
+    requires expected { IsValue (length seat.old.me.own.held) expected }
+    requires value { IsValue (length seat.old.me.own.held) value }
+    requires fits { is_fit sorts.now (sort_of sorts.now.boxes place field) value ≡ true }
     ensures seat { IsBound heap.now seat.new }
-    ensures opened { HoldsOpen seat.new.me }
+    ensures held { HoldsAs sorts.now seat.new.me }
+    ensures records { StillRecords seat.old.me.known seat.new.me.known }
     ensures keeps { KeepsPlaces (bound heap.now seat.old) (bound heap.now seat.new) }
     ensures made { OnTrue result (Updated HoldsSorted no_field_is_fixed same_pass
         (bound heap.now seat.old) place field expected value

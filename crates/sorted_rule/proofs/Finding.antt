@@ -14,18 +14,19 @@ use Rattle.core_machine.specs.declared.events.Event.TheVariants as event
 use Rattle.core_machine.specs.declared.events.Found.TheVariants as finds
 use Rattle.dlg_core.specs.Facts.{is_kind_field}
 use Rattle.dlg_core.specs.Reachable.{Reachable, named}
-use Rattle.heap_rule.specs.Asks.{target}
+use Rattle.heap_rule.specs.Asks.{known_of, target}
 use Rattle.heap_rule.specs.Boxes.{boxes_of, payload_of}
-use Rattle.heap_rule.specs.Facts.{TermFits, is_record_kind}
+use Rattle.heap_rule.specs.Facts.{IsKnown, IsPlain, TermFits, is_record_kind}
 use Rattle.heap_rule.specs.Lore.{Lore, entry_of, five_of, learned, learned_from}
 use Rattle.heap_rule.specs.Lore.{learned_of, named_or}
 use Rattle.heap_rule.specs.NoRule.{no_field_is_fixed}
 use Rattle.heap_rule.specs.Steps.{AtStep, Mine, same_pass}
 use Rattle.heap_rule.specs.declared.known.Known.{Known}
+use Rattle.heap_rule.specs.declared.known.Known.TheVariants as knows
 use Rattle.heap_rule.specs.declared.view.View.{View}
 use Rattle.heap_rule.proofs.EntryWords.{learned_box, learned_record, no_term, not_some}
 use Rattle.heap_rule.proofs.Maps.{in_map}
-use Rattle.heap_rule.proofs.Seats.{target_now}
+use Rattle.heap_rule.proofs.Seats.{knows_place, reached_place, target_now}
 use Rattle.sorted_rule.specs.Open.{IsOpen, KnownOfSort, sort_at}
 use Rattle.sorted_rule.specs.Sorted.{HoldsSorted}
 use Rattle.sorted_rule.specs.Sorts.{Boxes, IsOfSort, Records, Sort, sort_of}
@@ -115,6 +116,35 @@ module _ (v : View Sorting) (s : State) (l : Lore) (passes : List Sorting)
   found_fits : KnownOfSort (sort_at v place f) (learned_of s l c)
   found_fits = learned_fits v s l mine c reached old (sort_at v place f) entry
 
+-- What a field of a record names is a record.
+module _ (v : View Sorting) (s : State) (l : Lore) (mine : Mine no_field_is_fixed v s l) where
+  record_kind : (x : ℕ) (k : Known) → KnownOfSort Records k
+      → IsKnown no_field_is_fixed s l v.number x k → is_record_kind (field_of s x 5) ≡ true
+  record_kind x (knows.Record t) is known = ap is_record_kind known.0
+  record_kind x knows.Nothing is known = absurd is
+  record_kind x (knows.Raw fields) is known = absurd is
+  record_kind x (knows.Fresh fields) is known = absurd is
+  record_kind x (knows.Boxed told) is known = absurd is
+
+  with_term : (c : ℕ) (o : Option Term) → l.terms c ≡ o → IsPlain (named_or c o)
+      → KnownOfSort Records (learned_of s l c)
+  with_term c None is plain = absurd plain
+  with_term c (Some t) is plain =
+      subst (λ (k : Known). KnownOfSort Records k)
+      (sym (learned_record no_field_is_fixed s l mine.shown.facts c t is)) tt
+
+  record_named : (place f c : ℕ) → place < length v.own.held
+      → KnownOfSort Records (known_of v place) → f < 5
+      → field_of s (target v place) f ≡ field.Cell c → KnownOfSort Records (learned_of s l c)
+  record_named place f c there is payload names =
+      let x = target v place in
+      let kind = record_kind x (known_of v place) is (knows_place v s l mine place there) in
+      let fits : TermFits true l.terms (field_of s x) (l.terms x) =
+      subst (λ (b : Bool). TermFits b l.terms (field_of s x) (l.terms x)) kind
+      (mine.shown.facts.termed x (reached_place v s l mine place there)) in
+      with_term c (l.terms c) refl
+      (subst (λ (value : Field). IsPlain (entry_of l.terms value)) names (fits.1 f payload))
+
 same_found : (a b : Field) → finds.Field a ≡ finds.Field b → a ≡ b
 same_found a b is = cc
 
@@ -135,6 +165,21 @@ module _ (v : View Sorting) (place f cell : ℕ) (there : place < length v.own.h
       (found_fits v s l passes mine h at place f cell there open_is (omega (arith, payload))
       (ap (λ (y : ℕ). field_of s y f) (sym (target_now v s l mine place)) ∙ names))
 
+-- and of a record
+pub record_finds : (v : View Sorting) (place f cell : ℕ) → place < length v.own.held
+    → KnownOfSort Records (known_of v place) → f ≤ 4 → (s : State) (l : Lore)
+    → Mine no_field_is_fixed v s l
+    → found_by s (event.Read v.number place f) ≡ finds.Field (field.Cell cell)
+    → KnownOfSort Records (learned s l (event.Read v.number place f)).found
+record_finds v place f cell there is payload s l mine found =
+    let x = target_of s v.number place in
+    let names : field_of s x f ≡ field.Cell cell =
+    same_found (field_of s x f) (field.Cell cell) found in
+    subst (λ (k : Known). KnownOfSort Records k)
+    (sym (ap (learned_from s l) names))
+    (record_named v s l mine place f cell there is (omega (arith, payload))
+    (ap (λ (y : ℕ). field_of s y f) (sym (target_now v s l mine place)) ∙ names))
+
 -- at the step of a read
 pub read_finds : (v w : View Sorting) (place f word cell : ℕ) → place < length v.own.held
     → IsOpen v place → f ≤ 4
@@ -145,3 +190,11 @@ pub read_finds : (v w : View Sorting) (place f word cell : ℕ) → place < leng
 read_finds v w place f word cell there open_is payload step found =
     learned_finds v place f cell there open_is payload step.core step.lore step.passes step.mine
     step.kept step.pass found
+
+pub record_read_finds : (v w : View Sorting) (place f word cell : ℕ) → place < length v.own.held
+    → KnownOfSort Records (known_of v place) → f ≤ 4
+    → (step : AtStep HoldsSorted no_field_is_fixed v (event.Read v.number place f) same_pass word w)
+    → found_by step.core (event.Read v.number place f) ≡ finds.Field (field.Cell cell)
+    → KnownOfSort Records (learned step.core step.lore (event.Read v.number place f)).found
+record_read_finds v w place f word cell there is payload step found =
+    record_finds v place f cell there is payload step.core step.lore step.mine found

@@ -194,13 +194,6 @@ module _ (v : View Sorting) (place f : ℕ) (there : place < length v.own.held)
       write_stands v s l passes mine h at place f new there open_is
       (settled_comes v s l passes mine h at place f new may) old
 
-  pub write_shows : (old : Field) (fresh : ℕ) → MayShow v fresh → sort_at v place f ≡ Boxes
-      → Picks HoldsSorted no_field_is_fixed same_pass v
-      (event.Write v.number place f old (field.Cell (target v fresh)))
-  write_shows old fresh may boxes_there s l passes mine happens proper at h =
-      write_stands v s l passes mine h at place f (field.Cell (target v fresh)) there open_is
-      (fresh_comes v s l passes mine h at fresh may place f boxes_there) old
-
   module _ (place_is : (begun_of v).place ≡ place) (f_is : (begun_of v).f ≡ f) where
     pub store_picks : (new : Field) → MayStand v (sort_at v place f) new
         → Picks HoldsSorted no_field_is_fixed same_pass v (event.Store v.number new)
@@ -208,16 +201,5 @@ module _ (v : View Sorting) (place f : ℕ) (there : place < length v.own.held)
         let begun = begun_now v s l passes mine h at in
         store_stands v s l passes mine h at place f new there open_is
         (settled_comes v s l passes mine h at place f new may) (begun_there s v.number)
-        (ap (λ (w : Pending). w.place) begun ∙ place_is)
-        (ap (λ (w : Pending). w.f) begun ∙ f_is)
-
-    pub store_shows : (fresh : ℕ) → MayShow v fresh → sort_at v place f ≡ Boxes
-        → Picks HoldsSorted no_field_is_fixed same_pass v
-        (event.Store v.number (field.Cell (target v fresh)))
-    store_shows fresh may boxes_there s l passes mine happens proper at h =
-        let begun = begun_now v s l passes mine h at in
-        store_stands v s l passes mine h at place f (field.Cell (target v fresh)) there open_is
-        (fresh_comes v s l passes mine h at fresh may place f boxes_there)
-        (begun_there s v.number)
         (ap (λ (w : Pending). w.place) begun ∙ place_is)
         (ap (λ (w : Pending). w.f) begun ∙ f_is)

@@ -5,7 +5,7 @@ ghost use Rattle.cell_words.specs.declared.fields.Field.TheVariants as field;
 ghost use Rattle.core_machine.specs.Next.{found_by};
 ghost use Rattle.core_machine.specs.declared.events.Event.TheVariants as event;
 ghost use Rattle.core_machine.specs.declared.events.Found.TheVariants as finds;
-ghost use Rattle.heap_rule.specs.Asks.{begun_of, target};
+ghost use Rattle.heap_rule.specs.Asks.{begun_of, known_of, target};
 ghost use Rattle.heap_rule.specs.Boxes.{boxes_of};
 ghost use Rattle.heap_rule.specs.Lore.{learned};
 ghost use Rattle.heap_rule.specs.NoRule.{no_field_is_fixed};
@@ -16,7 +16,7 @@ ghost use Rattle.heap_rule.specs.declared.view.View.{View};
 ghost use Rattle.sorted_rule.specs.Open.{IsOpen, KnownOfSort, MayShow, MayStand, sort_at};
 ghost use Rattle.sorted_rule.specs.Opening.{first_rows, first_terms};
 ghost use Rattle.sorted_rule.specs.Sorted.{HoldsSorted, opening_pass};
-ghost use Rattle.sorted_rule.specs.Sorts.{Boxes};
+ghost use Rattle.sorted_rule.specs.Sorts.{Boxes, Records};
 ghost use Rattle.sorted_rule.specs.declared.sorting.Sorting.{Sorting};
 
 /// A heap whose first row is that of the anchor, with nothing in it, opens with the rule, whatever
@@ -29,14 +29,21 @@ pub fn sorted_opens()
 {}
 
 /// A read of a field of an open place that finds a cell finds one of the field's sort: a box that
-/// others may know, and not the anchor; or a record.
+/// others may know, and not the anchor; or a record. And of a record it finds a record.
 pub fn reads_find_their_sort()
-    ensures { (v w : View Sorting) (place f word cell : ℕ) → place < length v.own.held
+    ensures boxes { (v w : View Sorting) (place f word cell : ℕ) → place < length v.own.held
         → IsOpen v place → f ≤ 4
         → (step : AtStep HoldsSorted no_field_is_fixed v (event.Read v.number place f) same_pass
         word w)
         → found_by step.core (event.Read v.number place f) ≡ finds.Field (field.Cell cell)
         → KnownOfSort (sort_at v place f)
+        (learned step.core step.lore (event.Read v.number place f)).found }
+    ensures records { (v w : View Sorting) (place f word cell : ℕ) → place < length v.own.held
+        → KnownOfSort Records (known_of v place) → f ≤ 4
+        → (step : AtStep HoldsSorted no_field_is_fixed v (event.Read v.number place f) same_pass
+        word w)
+        → found_by step.core (event.Read v.number place f) ≡ finds.Field (field.Cell cell)
+        → KnownOfSort Records
         (learned step.core step.lore (event.Read v.number place f)).found }
 {}
 
@@ -52,23 +59,9 @@ pub fn a_write_of_its_sort_keeps_the_rule()
         → Picks HoldsSorted no_field_is_fixed same_pass v (event.Store v.number new) }
 {}
 
-/// And so does a write of a fresh box into a field that names boxes, if the box has what any box
-/// may have: from then on others may know it.
-pub fn a_new_box_may_be_shown()
-    ensures exchanged { (v : View Sorting) (place f : ℕ) → place < length v.own.held
-        → IsOpen v place → (old : Field) (fresh : ℕ) → MayShow v fresh
-        → sort_at v place f ≡ Boxes
-        → Picks HoldsSorted no_field_is_fixed same_pass v
-        (event.Write v.number place f old (field.Cell (target v fresh))) }
-    ensures stored { (v : View Sorting) (place f : ℕ) → place < length v.own.held
-        → IsOpen v place → (begun_of v).place ≡ place → (begun_of v).f ≡ f → (fresh : ℕ)
-        → MayShow v fresh → sort_at v place f ≡ Boxes
-        → Picks HoldsSorted no_field_is_fixed same_pass v
-        (event.Store v.number (field.Cell (target v fresh))) }
-{}
-
-/// So does a write of such a box into a field of its own that names boxes. No other cell is needed
-/// to show it, and nobody else comes to know it by that.
+/// So does a write of a fresh box into a field of its own that names boxes, if the box has what any
+/// box may have: from then on others may know it. No other cell is needed to show it, and nobody
+/// else comes to know it by that.
 pub fn a_new_box_may_name_itself()
     ensures { (v : View Sorting) (fresh f : ℕ) → MayShow v fresh → sort_at v 1 f ≡ Boxes
         → (old : Field)

@@ -3,7 +3,7 @@ use Rattle.core_machine.specs.declared.events.Found.TheVariants as finds
 use Rattle.mutator_seat.specs.Bound.{bound}
 use Rattle.mutator_seat.specs.Claims.{anything}
 use Rattle.mutator_seat.proofs.Calm.{calm_one, kept_look}
-use Rattle.sorted_boxes.proofs.Holding.{calm_holds, calm_keeps}
+use Rattle.sorted_boxes.proofs.Holding.{calm_holds, calm_keeps, calm_records}
 use Rattle.sorted_boxes.proofs.coming.look.Goals as goal
 
 pub returns : goal.returns
@@ -16,6 +16,7 @@ returns c =
     record {
       seat = c.look_once.ensures.seat;
       mode = c.look_once.ensures.mode;
-      opened = λ least at. calm_holds anything was now calm least at;
+      held = calm_holds anything was now calm;
+      records = calm_records anything was now calm;
       keeps = calm_keeps anything was now calm;
     }

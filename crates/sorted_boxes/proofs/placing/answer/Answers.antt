@@ -1,9 +1,14 @@
 use Rattle.mutator_seat.specs.Bound.{bound}
-use Rattle.sorted_boxes.proofs.Holding.{calm_holds}
+use Rattle.sorted_boxes.proofs.Holding.{calm_holds, calm_records}
 use Rattle.sorted_boxes.proofs.placing.answer.Goals as goal
 
-pub returns-clause-opened : goal.returns-clause-opened
-returns-clause-opened c =
-    let heap = c.args.heap.now in
-    calm_holds _ (bound heap c.args.seat.now) (bound heap c.answer.new.seat) c.answer.ensures.calm
-    1 c.requires.opened
+pub returns : goal.returns
+returns c =
+    let was = bound c.args.heap.now c.args.seat.now in
+    let now = bound c.args.heap.now c.answer.new.seat in
+    record {
+      seat = c.answer.ensures.seat;
+      held = calm_holds _ was now c.answer.ensures.calm;
+      records = calm_records _ was now c.answer.ensures.calm;
+      calm = c.answer.ensures.calm;
+    }

@@ -1,18 +1,21 @@
+use Rattle.std.proofs.Common.{◌∙◌}
 use Rattle.mutator_seat.specs.Bound.{bound}
-use Rattle.sorted_boxes.proofs.AfterWrites.{kept_holds}
+use Rattle.sorted_boxes.proofs.Carrying.{still_records}
+use Rattle.sorted_boxes.proofs.Holding.{holds_same}
 use Rattle.sorted_boxes.proofs.Shown.{same_keeps, same_still}
 use Rattle.sorted_boxes.proofs.placing.is_same.Goals as goal
 
-pub returns-clause-opened : goal.returns-clause-opened
-returns-clause-opened c =
-    let heap = c.args.heap.now in
-    let was = bound heap c.args.seat.now in
-    let now = bound heap c.is_same.new.seat in
-    kept_holds was now (same_keeps was now _ c.is_same.ensures.told)
-    (same_still was now _ c.is_same.ensures.told) 1 c.requires.opened
-
-pub returns-clause-keeps : goal.returns-clause-keeps
-returns-clause-keeps c =
-    let heap = c.args.heap.now in
-    same_keeps (bound heap c.args.seat.now) (bound heap c.is_same.new.seat) _
-    c.is_same.ensures.told
+pub returns : goal.returns
+returns c =
+    let was = bound c.args.heap.now c.args.seat.now in
+    let now = bound c.args.heap.now c.is_same.new.seat in
+    let keeps = same_keeps was now _ c.is_same.ensures.told in
+    let still = same_still was now _ c.is_same.ensures.told in
+    record {
+      seat = c.is_same.ensures.seat;
+      held = holds_same was now keeps still;
+      records = still_records was now still
+          (c.held_len-held.ensures.known ∙ c.held_len-held.ensures.len);
+      same = c.is_same.ensures.same;
+      keeps = keeps;
+    }

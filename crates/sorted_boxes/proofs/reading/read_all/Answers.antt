@@ -1,100 +1,120 @@
 use Rattle.std.proofs.Common.{arith}
 use Rattle.mutator_seat.specs.Bound.{bound}
-use Rattle.sorted_rule.specs.Sorts.{Boxes}
-use Rattle.sorted_boxes.proofs.FiveReads.{read_once, read_then, room_still, sort_still, there_still}
+use Rattle.sorted_boxes.proofs.FiveReads.{five_sorted, read_none, read_once, read_then, room_still}
+use Rattle.sorted_boxes.proofs.FiveReads.{sort_later, there_still}
 use Rattle.sorted_boxes.proofs.reading.read_all.Goals as goal
 
 pub read-second-requires : goal.read-second-requires
 read-second-requires c =
-    let heap = c.args.heap.now in
-    let place = c.args.place in
-    let was = bound heap c.args.seat.now in
-    let one = bound heap c.read-first.new.seat in
-    let on = read_once was one place 0 _ c.read-first.ensures.gave in
+    let first = c.read-first.ensures in
+    let to_one = read_once first.gave first.same first.records c.requires.held first.held in
+    let on = to_one in
     record {
-      seat = c.read-first.ensures.seat;
-      opened = c.read-first.ensures.opened;
-      there = there_still 1 was one on place c.requires.there;
+      seat = first.seat;
+      held = first.held;
+      there = there_still on c.args.place c.requires.there;
       field = omega arith;
-      sort = sort_still 1 was one on place 1 Boxes (c.requires.sorts 1 (omega arith));
-      room = room_still 1 was one on (omega arith) c.requires.room;
+      room = room_still on (omega arith) c.requires.room;
     }
 
 pub read-third-requires : goal.read-third-requires
 read-third-requires c =
-    let heap = c.args.heap.now in
-    let place = c.args.place in
-    let was = bound heap c.args.seat.now in
-    let one = bound heap c.read-first.new.seat in
-    let two = bound heap c.read-second.new.seat in
-    let on = read_then 1 was one two place 1 _
-    (read_once was one place 0 _ c.read-first.ensures.gave) c.read-second.ensures.gave in
+    let first = c.read-first.ensures in
+    let second = c.read-second.ensures in
+    let to_one = read_once first.gave first.same first.records c.requires.held first.held in
+    let to_two = read_once second.gave second.same second.records first.held second.held in
+    let on = read_then to_one to_two in
     record {
-      seat = c.read-second.ensures.seat;
-      opened = c.read-second.ensures.opened;
-      there = there_still 2 was two on place c.requires.there;
+      seat = second.seat;
+      held = second.held;
+      there = there_still on c.args.place c.requires.there;
       field = omega arith;
-      sort = sort_still 2 was two on place 2 Boxes (c.requires.sorts 2 (omega arith));
-      room = room_still 2 was two on (omega arith) c.requires.room;
+      room = room_still on (omega arith) c.requires.room;
     }
 
 pub read-fourth-requires : goal.read-fourth-requires
 read-fourth-requires c =
-    let heap = c.args.heap.now in
-    let place = c.args.place in
-    let was = bound heap c.args.seat.now in
-    let one = bound heap c.read-first.new.seat in
-    let two = bound heap c.read-second.new.seat in
-    let three = bound heap c.read-third.new.seat in
-    let on = read_then 2 was two three place 2 _ (read_then 1 was one two place 1 _
-    (read_once was one place 0 _ c.read-first.ensures.gave) c.read-second.ensures.gave)
-    c.read-third.ensures.gave in
+    let first = c.read-first.ensures in
+    let second = c.read-second.ensures in
+    let third = c.read-third.ensures in
+    let to_one = read_once first.gave first.same first.records c.requires.held first.held in
+    let to_two = read_once second.gave second.same second.records first.held second.held in
+    let to_three = read_once third.gave third.same third.records second.held third.held in
+    let on = read_then (read_then to_one to_two) to_three in
     record {
-      seat = c.read-third.ensures.seat;
-      opened = c.read-third.ensures.opened;
-      there = there_still 3 was three on place c.requires.there;
+      seat = third.seat;
+      held = third.held;
+      there = there_still on c.args.place c.requires.there;
       field = omega arith;
-      sort = sort_still 3 was three on place 3 Boxes (c.requires.sorts 3 (omega arith));
-      room = room_still 3 was three on (omega arith) c.requires.room;
+      room = room_still on (omega arith) c.requires.room;
     }
 
 pub read-fifth-requires : goal.read-fifth-requires
 read-fifth-requires c =
-    let heap = c.args.heap.now in
-    let place = c.args.place in
-    let was = bound heap c.args.seat.now in
-    let one = bound heap c.read-first.new.seat in
-    let two = bound heap c.read-second.new.seat in
-    let three = bound heap c.read-third.new.seat in
-    let four = bound heap c.read-fourth.new.seat in
-    let on = read_then 3 was three four place 3 _ (read_then 2 was two three place 2 _
-    (read_then 1 was one two place 1 _
-    (read_once was one place 0 _ c.read-first.ensures.gave) c.read-second.ensures.gave)
-    c.read-third.ensures.gave) c.read-fourth.ensures.gave in
+    let first = c.read-first.ensures in
+    let second = c.read-second.ensures in
+    let third = c.read-third.ensures in
+    let fourth = c.read-fourth.ensures in
+    let to_one = read_once first.gave first.same first.records c.requires.held first.held in
+    let to_two = read_once second.gave second.same second.records first.held second.held in
+    let to_three = read_once third.gave third.same third.records second.held third.held in
+    let to_four = read_once fourth.gave fourth.same fourth.records third.held fourth.held in
+    let on = read_then (read_then (read_then to_one to_two) to_three) to_four in
     record {
-      seat = c.read-fourth.ensures.seat;
-      opened = c.read-fourth.ensures.opened;
-      there = there_still 4 was four on place c.requires.there;
+      seat = fourth.seat;
+      held = fourth.held;
+      there = there_still on c.args.place c.requires.there;
       field = omega arith;
-      sort = sort_still 4 was four on place 4 Boxes (c.requires.sorts 4 (omega arith));
-      room = room_still 4 was four on (omega arith) c.requires.room;
+      room = room_still on (omega arith) c.requires.room;
     }
 
 pub returns : goal.returns
 returns c =
     let heap = c.args.heap.now in
+    let first = c.read-first.ensures in
+    let second = c.read-second.ensures in
+    let third = c.read-third.ensures in
+    let fourth = c.read-fourth.ensures in
+    let fifth = c.read-fifth.ensures in
+    let to_one = read_once first.gave first.same first.records c.requires.held first.held in
+    let to_two = read_once second.gave second.same second.records first.held second.held in
+    let to_three = read_once third.gave third.same third.records second.held third.held in
+    let to_four = read_once fourth.gave fourth.same fourth.records third.held fourth.held in
+    let to_five = read_once fifth.gave fifth.same fifth.records fourth.held fifth.held in
+    let five = bound heap c.read-fifth.new.seat in
+    let on_one = to_one in
+    let on_two = read_then on_one to_two in
+    let on_three = read_then on_two to_three in
+    let on_four = read_then on_three to_four in
+    let on_five = read_then on_four to_five in
+    let from_five = read_none c.read-fifth.new.sorts five in
+    let from_four = read_then to_five from_five in
+    let from_three = read_then to_four from_four in
+    let from_two = read_then to_three from_three in
+    let from_one = read_then to_two from_two in
+    let start = read_none c.args.sorts.now (bound heap c.args.seat.now) in
+    let there = c.requires.there in
     record {
-      seat = c.read-fifth.ensures.seat;
-      opened = c.read-fifth.ensures.opened;
+      seat = fifth.seat;
+      held = fifth.held;
       gave = record {
         one = bound heap c.read-first.new.seat;
         two = bound heap c.read-second.new.seat;
         three = bound heap c.read-third.new.seat;
         four = bound heap c.read-fourth.new.seat;
-        first = c.read-first.ensures.gave;
-        second = c.read-second.ensures.gave;
-        third = c.read-third.ensures.gave;
-        fourth = c.read-fourth.ensures.gave;
-        fifth = c.read-fifth.ensures.gave;
+        first = first.gave;
+        second = second.gave;
+        third = third.gave;
+        fourth = fourth.gave;
+        fifth = fifth.gave;
       };
+      sorts = five_sorted c.args.place c.read-first.result c.read-second.result c.read-third.result
+          c.read-fourth.result c.read-fifth.result c.args.sorts.now c.read-fifth.new.sorts
+          (sort_later first.gave first.sort start from_one there)
+          (sort_later second.gave second.sort on_one from_two there)
+          (sort_later third.gave third.sort on_two from_three there)
+          (sort_later fourth.gave fourth.sort on_three from_four there)
+          (sort_later fifth.gave fifth.sort on_four from_five there);
+      same = on_five.same;
+      records = on_five.records;
     }

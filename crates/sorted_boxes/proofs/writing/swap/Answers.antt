@@ -1,28 +1,29 @@
 use Rattle.mutator_seat.specs.Bound.{bound}
-use Rattle.sorted_boxes.proofs.AfterWrites.{kept_holds, updated_keeps, updated_still}
-use Rattle.sorted_boxes.proofs.Giving.{may_update, open_gives, open_named, open_sealed}
+use Rattle.sorted_boxes.proofs.AfterWrites.{updated_keeps, updated_records, updated_still}
+use Rattle.sorted_boxes.proofs.Giving.{box_open, may_update, value_gives, value_named, value_sealed}
+use Rattle.sorted_boxes.proofs.Holding.{holds_same}
 use Rattle.sorted_boxes.proofs.Picks.{picks_update}
 use Rattle.sorted_boxes.proofs.writing.swap.Goals as goal
 
 pub update-requires-clause-may : goal.update-requires-clause-may
 update-requires-clause-may c =
     let was = bound c.args.heap.now c.args.seat.now in
-    let at = c.requires.opened in
+    let at = c.requires.held in
     may_update was c.args.place c.args.field at.inside c.requires.there
-    (at.opened c.args.place c.requires.there) c.requires.field c.args.value
-    (open_named 1 was at c.args.value c.requires.value)
-    (open_sealed 1 was at c.args.value c.requires.value) c.args.expected
-    (open_named 1 was at c.args.expected c.requires.expected)
+    (box_open c.args.sorts.now was at c.args.place c.requires.there c.requires.boxed)
+    c.requires.field c.args.value (value_named was c.args.value c.requires.value)
+    (value_sealed c.args.sorts.now was at c.args.value c.requires.value) c.args.expected
+    (value_named was c.args.expected c.requires.expected)
 
 pub update-requires-clause-rule : goal.update-requires-clause-rule
 update-requires-clause-rule c =
     let was = bound c.args.heap.now c.args.seat.now in
-    let at = c.requires.opened in
+    let at = c.requires.held in
     picks_update was c.args.place c.args.field c.requires.there
-    (at.opened c.args.place c.requires.there) c.args.value
-    (open_named 1 was at c.args.value c.requires.value)
-    (open_gives 1 was at c.args.place c.args.field c.requires.sort c.args.value c.requires.value)
-    c.args.expected
+    (box_open c.args.sorts.now was at c.args.place c.requires.there c.requires.boxed) c.args.value
+    (value_named was c.args.value c.requires.value)
+    (value_gives c.args.sorts.now was at c.args.place c.args.field c.args.value c.requires.value
+    c.requires.fits) c.args.expected
 
 pub returns-in-Ok : goal.returns-in-Ok
 returns-in-Ok c =
@@ -33,9 +34,11 @@ returns-in-Ok c =
     in
     record {
       seat = c.update.ensures.seat;
-      opened = kept_holds was now keeps
-          (updated_still was now c.args.place c.args.field c.args.expected c.args.value _ wrote) 1
-          c.requires.opened;
+      held = holds_same was now keeps
+          (updated_still was now c.args.place c.args.field c.args.expected c.args.value _ wrote)
+          c.args.sorts.now c.requires.held;
+      records = updated_records was now c.args.place c.args.field c.args.expected c.args.value _
+          wrote;
       keeps = keeps;
       made = wrote;
       moved = tt;
@@ -50,9 +53,11 @@ returns-in-Err c =
     moved.1 in
     record {
       seat = c.update.ensures.seat;
-      opened = kept_holds was now keeps
+      held = holds_same was now keeps
           (updated_still was now c.args.place c.args.field c.args.expected c.args.value _ moved.1)
-          1 c.requires.opened;
+          c.args.sorts.now c.requires.held;
+      records = updated_records was now c.args.place c.args.field c.args.expected c.args.value _
+          moved.1;
       keeps = keeps;
       made = tt;
       moved = (_, moved.0, moved.1);
