@@ -1,12 +1,16 @@
 //! What copies private records into the shared heap, and what makes room for more of them.
 ghost use Rattle.std.specs.Prelude.{◌≡◌, ◌≢◌, ◌<◌, ◌≤◌, ◌+◌, ◌++◌, ◌∷◌, ◌⊎◌, [], All, Err, IfErr, IfOk, List, length};
-ghost use Rattle.std.specs.Prelude.{true, ℕ};
+ghost use Rattle.std.specs.Prelude.{◌/◌, max, true, ℕ};
+ghost use Rattle.std.specs.Bool.{OnFalse, OnTrue};
 ghost use Rattle.heap_c.specs.Claiming.{SaysNone};
-ghost use Rattle.heap_c.specs.Holding.{IsOwned, owned_by};
-ghost use Rattle.heap_c.specs.Moving.{CopiesRecords, PromotesRecord, ReleasesPlaces};
-ghost use Rattle.heap_c.specs.Moving.{SettlesRoots, SharesRoots, TellsRoots};
+ghost use Rattle.heap_c.specs.Holding.{IsOwned, NoAnchor, owned_by};
+ghost use Rattle.heap_c.specs.Moving.{AgesFor, CopiesRecords, PromotesRecord, ReleasesPlaces};
+ghost use Rattle.heap_c.specs.Moving.{ReservesRoom, SettlesRoots, SharesFor, SharesRoots};
+ghost use Rattle.heap_c.specs.Moving.{TellsRoots};
+ghost use Rattle.heap_c.specs.declared.codes.Code.TheVariants as code;
+ghost use Rattle.heap_rule.specs.declared.known.Known.{Known};
 ghost use Rattle.heap_rule.specs.Lore.{known_at};
-ghost use Rattle.local_records.specs.Local.{IsRootBelow};
+ghost use Rattle.local_records.specs.Local.{IsLocal, IsRootBelow};
 ghost use Rattle.local_records.specs.Settling.{cell_count, cells_in};
 ghost use Rattle.local_references.specs.Roots.{private_of, slot_at};
 ghost use Rattle.local_references.specs.declared.roots.Root.{Root};
@@ -274,13 +278,141 @@ pub(crate) fn share(
             settle(heap, seat, sorts, local, base);
             Code::Ok
         }
-        Progress::Part => {
-            if most == 0 {
-                Code::NoRoom
+        Progress::Part => { if most == 0 { Code::NoRoom } else { Code::Part } }
+        Progress::NoCell => cells.code(),
+    }
+}
+
+/// How many copies a call makes at most that makes room.
+fn slice_of(local: &LocalRecords) -> usize
+    ensures slice { result ≡ max 1000 (local.now.room / 8) }
+{
+    let room = u64::from(local.spare()) + u64::from(local.len());
+    let part = (room / 8) as usize;
+    part.max(1000)
+}
+
+/// Whether all was done.
+fn is_ok(answer: Code) -> bool
+    ensures yes { OnTrue result (answer ≡ code.Ok) }
+    ensures no { OnFalse result (answer ≡ code.Ok → ⊥) }
+{
+    match answer {
+        Code::Ok => true,
+        _ => false,
+    }
+}
+
+/// One step of a sharing that is to leave so many places free. It is noted whether records have
+/// copies then.
+fn share_for(
+    heap: &CellHeap<Rule>,
+    seat: &mut MutSeat<Rule>,
+    sorts: &mut Sorts,
+    local: &mut LocalRecords,
+    cells: &mut FreeCells<'_>,
+    copied: &mut bool,
+    base: usize,
+    places: usize,
+) -> Code
+    requires owned { IsOwned heap.now seat.old sorts.old local.old }
+    ensures owned { IsOwned heap.now seat.new sorts.new local.new }
+    ensures shared { SharesFor (owned_by heap.now seat.old sorts.old local.old)
+        (owned_by heap.now seat.new sorts.new local.new) base places result }
+    ensures waits { SaysNone result → cells.new.refusals ≢ cells.old.refusals }
+{
+    let most = slice_of(local);
+    let code = share(heap, seat, sorts, local, cells, base, most);
+    if is_ok(code) {
+        *copied = false;
+        if seat.room() < places {
+            Code::NoRoom
+        } else {
+            Code::Ok
+        }
+    } else {
+        *copied = true;
+        code
+    }
+}
+
+/// Lets records go that no root leads to: whether that is enough for so many more.
+fn age(local: &mut LocalRecords, records: u32) -> Code
+    ensures ages { AgesFor local.old local.new records result }
+    ensures local { (known : List Known) → IsLocal local.old known → IsLocal local.new known }
+    ensures apart { NoAnchor local.old.roots → NoAnchor local.new.roots }
+{
+    match local.age() {
+        Ok(()) => {
+            if records <= local.spare() {
+                Code::Ok
             } else {
                 Code::Part
             }
         }
-        Progress::NoCell => cells.code(),
+        Err(_) => Code::Spent,
     }
+}
+
+/// Whether so many places are free, and besides as many as a sharing may need later: one for each
+/// record, with so many more records, and one for each root.
+fn has_places(free: usize, places: usize, roots: usize, all: u32, records: u32) -> bool
+    ensures yes { OnTrue result (places + (roots + (all + records)) ≤ free) }
+    ensures no { OnFalse result (free < places + (roots + (all + records))) }
+{
+    if free < places {
+        return false;
+    }
+    let left = free - places;
+    if left < roots {
+        return false;
+    }
+    u64::from(all) + u64::from(records) <= (left - roots) as u64
+}
+
+/// Makes room for so many more private records and places, by one step. Records that have copies,
+/// where that is noted, are not aged: they would lose these.
+pub(crate) fn reserve(
+    heap: &CellHeap<Rule>,
+    seat: &mut MutSeat<Rule>,
+    sorts: &mut Sorts,
+    local: &mut LocalRecords,
+    cells: &mut FreeCells<'_>,
+    copied: &mut bool,
+    base: usize,
+    records: u32,
+    places: usize,
+) -> Code
+    requires owned { IsOwned heap.now seat.old sorts.old local.old }
+    ensures owned { IsOwned heap.now seat.new sorts.new local.new }
+    ensures reserved { ReservesRoom copied.old (owned_by heap.now seat.old sorts.old local.old)
+        (owned_by heap.now seat.new sorts.new local.new) base records places result }
+    ensures waits { SaysNone result → cells.new.refusals ≢ cells.old.refusals }
+{
+    if !seat.is_in() {
+        return Code::NotIn;
+    }
+    let held = seat.held_len();
+    if base < FIRST || held < base {
+        return Code::BadPlace;
+    }
+    let spare = local.spare();
+    let all = local.len();
+    if spare < records && all < records - spare {
+        return Code::BadSize;
+    }
+    let free = seat.room();
+    let roots = local.roots_len();
+    if has_places(free, places, roots, all, records) {
+        if records <= spare {
+            return Code::Ok;
+        }
+        let has_copies = *copied;
+        if !has_copies {
+            if !local.has_aged() {
+                return age(local, records);
+            }
+        }
+    }
+    share_for(heap, seat, sorts, local, cells, copied, base, places)
 }
