@@ -1,8 +1,7 @@
 -- What a mutator owns after its private records were copied, and after its roots were settled.
-use Rattle.std.proofs.Common.{◌≡◌, ◌<◌, ◌≤◌, ◌+◌, ◌++◌, ◌∷◌, ℕ, zero, suc, Bool, true, false, List}
-use Rattle.std.proofs.Common.{[], length, max, take, inl, inr, refl, sym, ◌∙◌, ap, subst, arith}
+use Rattle.std.proofs.Common.{◌≡◌, ◌≤◌, ◌+◌, ℕ, Bool, true, false, List}
+use Rattle.std.proofs.Common.{length, max, take, inl, inr, sym, ◌∙◌, ap, subst, arith}
 use Rattle.std.proofs.lemmas.List.{append-nil, length-take-le}
-use Rattle.heap_rule.specs.declared.known.Known.{Known}
 use Rattle.heap_table.specs.Seats.{HeapId, SeatView}
 use Rattle.held_places.proofs.Going.{many_cells, many_held}
 use Rattle.local_records.specs.Local.{IsLocal, Local}
@@ -13,16 +12,14 @@ use Rattle.record_copying.specs.Copies.{CopiesUpTo}
 use Rattle.sorted_boxes.specs.Calls.{KeepsRecords, Narrows}
 use Rattle.sorted_boxes.specs.Holding.{HoldsAs, HoldsFirst}
 use Rattle.sorted_boxes.specs.Sorts.{SortList}
-use Rattle.sorted_boxes.proofs.HeldCopies.{grown_first, grown_records}
+use Rattle.sorted_boxes.proofs.HeldCopies.{grown_first}
 use Rattle.sorted_rule.specs.declared.sorting.Sorting.{Sorting}
-use Rattle.std.specs.Prelude.{Err, ◌⊎◌}
+use Rattle.std.specs.Prelude.{Err}
 use Rattle.heap_c.specs.Claiming.{SaysNone}
 use Rattle.heap_c.specs.Calls.{IsIn}
-use Rattle.heap_c.specs.Holding.{IsMine, IsOwned, NoAnchor, Owned, held_by, owned_by}
+use Rattle.heap_c.specs.Holding.{IsMine, IsOwned, NoAnchor, Owned}
 use Rattle.heap_c.specs.Moving.{CopiesRecords, PromotesRecord, SharesRoots}
-use Rattle.heap_c.specs.Refusing.{held_of}
 use Rattle.heap_c.specs.declared.codes.Code.{Code}
-use Rattle.heap_c.specs.declared.codes.Code.TheVariants as code
 use Rattle.heap_c.specs.declared.values.HeapVal.{HeapVal}
 
 not_out : (x : Bool) → x ≡ true → x ≡ false → ⊥
@@ -68,8 +65,8 @@ module _ (a b : Bound Sorting) (most : ℕ) (up : CopiesUpTo most a b)
   up_first = grown_first a b up.count up.grown many
 
 -- After copies the same is owned.
-module _ (heap : HeapId) (old new : SeatView Sorting) (sorts later : SortList) (before after : Local)
-    (most : ℕ) (owned : IsOwned heap old sorts before)
+module _ (heap : HeapId) (old new : SeatView Sorting) (sorts later : SortList)
+    (before after : Local) (most : ℕ) (owned : IsOwned heap old sorts before)
     (inside : old.me.presence.inside ≡ true) (is : IsBound heap new)
     (up : CopiesUpTo most (bound heap old) (bound heap new)) (holds : HoldsAs later new.me) where
   pub copied_owned : IsLocal after new.me.known → after.roots ≡ before.roots

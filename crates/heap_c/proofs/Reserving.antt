@@ -1,16 +1,7 @@
 -- A step of a sharing that makes room.
-use Rattle.std.proofs.Common.{◌≡◌, ◌<◌, ◌≤◌, ◌+◌, ◌/◌, ◌⊎◌, ◌∙◌, ℕ, Bool, false, List, length, max, inl, inr}
-use Rattle.std.proofs.Common.{refl, ap, subst, arith}
-use Rattle.std.proofs.Math.Nat.{le-max_left}
-use Rattle.heap_table.specs.Seats.{HeapId, SeatView}
-use Rattle.local_records.specs.Local.{Local}
-use Rattle.minor_heap.specs.declared.fields.MinorField.{MinorField}
-use Rattle.sorted_boxes.specs.Sorts.{SortList}
-use Rattle.sorted_rule.specs.declared.sorting.Sorting.{Sorting}
-use Rattle.heap_c.specs.Calls.{IsIn}
-use Rattle.heap_c.specs.Holding.{Owned, owned_by}
-use Rattle.heap_c.specs.Moving.{AgesFor, AgesRecords, ReservesRoom, SharesFor, SharesRoots, slice_of}
-use Rattle.heap_c.specs.Refusing.{held_of}
+use Rattle.std.proofs.Common.{◌≡◌, ℕ, inl, refl, subst}
+use Rattle.heap_c.specs.Holding.{Owned}
+use Rattle.heap_c.specs.Moving.{SharesFor, SharesRoots, slice_of}
 use Rattle.heap_c.specs.declared.codes.Code.{Code}
 use Rattle.heap_c.specs.declared.codes.Code.TheVariants as code
 

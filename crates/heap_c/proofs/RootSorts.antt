@@ -1,9 +1,10 @@
--- The sorts of roots that are cells, as a list tells of them at the places where they are to be held.
-use Rattle.std.proofs.Common.{◌≡◌, ◌<◌, ◌≤◌, ◌+◌, ◌-◌, ◌++◌, ◌∷◌, ◌∙◌, ℕ, zero, suc, Bool, true, false}
-use Rattle.std.proofs.Common.{List, [], length, get_or, take, inl, inr, refl, sym, ap, subst, arith}
+-- The sorts of roots that are cells, as a list tells of them where they are to be held.
+use Rattle.std.proofs.Common.{◌≡◌, ◌<◌, ◌≤◌, ◌+◌, ◌-◌, ◌++◌, ◌∷◌, ◌∙◌, ℕ, zero, suc, Bool, true}
+use Rattle.std.proofs.Common.{false, List, [], length, get_or, take, inl, inr, refl, sym, ap, subst}
+use Rattle.std.proofs.Common.{arith}
 use Rattle.std.specs.List.{CopiedTo, SameBelow}
 use Rattle.std.proofs.lemmas.Bool.{cases_lt}
-use Rattle.std.proofs.lemmas.List.{append-nil, get_or-append-add, get_or-append_right, get_or-set_other}
+use Rattle.std.proofs.lemmas.List.{append-nil, get_or-append_right, get_or-set_other}
 use Rattle.std.proofs.lemmas.List.{get_or-set_same, get_or-take, get_or_append_left, get_or_push}
 use Rattle.std.proofs.lemmas.List.{length-append, length-set, length-take-le}
 use Rattle.heap_rule.specs.Asks.{known_of, target}
@@ -17,15 +18,14 @@ use Rattle.local_references.specs.Roots.{IsPrivate, RootsKeep, slot_at}
 use Rattle.local_references.specs.declared.roots.Root.{Root}
 use Rattle.local_references.specs.declared.roots.Root.TheVariants as root
 use Rattle.minor_heap.specs.declared.fields.MinorField.{MinorField}
-use Rattle.minor_heap.specs.declared.fields.MinorRef.{MinorRef}
 use Rattle.mutator_seat.specs.Bound.{Bound}
 use Rattle.sorted_rule.specs.Open.{KnownOfSort}
 use Rattle.sorted_rule.specs.Sorts.{Sort}
 use Rattle.sorted_rule.specs.declared.sorting.Sorting.{Sorting}
 use Rattle.sorted_boxes.specs.Holding.{HoldsAs, IsAs}
 use Rattle.sorted_boxes.specs.Sorts.{SortList, holds_record, sort_as, sort_in}
-use Rattle.sorted_boxes.proofs.Giving.{as_known, held_known, known_as}
-use Rattle.sorted_boxes.proofs.Holding.{same_then, serves_on}
+use Rattle.sorted_boxes.proofs.Giving.{held_known, known_as}
+use Rattle.sorted_boxes.proofs.Holding.{serves_on}
 use Rattle.sorted_boxes.proofs.Narrowing.{kept_serves}
 use Rattle.sorted_boxes.proofs.SortLists.{box_in, with_set}
 use Rattle.heap_c.specs.Holding.{NoAnchor}

@@ -1,6 +1,6 @@
 //! What copies private records into the shared heap, and what makes room for more of them.
-ghost use Rattle.std.specs.Prelude.{◌≡◌, ◌≢◌, ◌<◌, ◌≤◌, ◌+◌, ◌++◌, ◌∷◌, ◌⊎◌, [], All, Err, IfErr, IfOk, List, length};
-ghost use Rattle.std.specs.Prelude.{◌/◌, max, true, ℕ};
+ghost use Rattle.std.specs.Prelude.{◌≡◌, ◌≢◌, ◌<◌, ◌≤◌, ◌+◌, ◌/◌, ◌++◌, ◌∷◌, ◌⊎◌, [], All, Err};
+ghost use Rattle.std.specs.Prelude.{IfErr, IfOk, List, length, max, true, ℕ};
 ghost use Rattle.std.specs.Bool.{OnFalse, OnTrue};
 ghost use Rattle.heap_c.specs.Claiming.{SaysNone};
 ghost use Rattle.heap_c.specs.Holding.{IsOwned, NoAnchor, owned_by};

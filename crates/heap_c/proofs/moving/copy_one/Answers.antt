@@ -26,10 +26,11 @@ hold_records-requires c =
 
 pub returns-clause-owned : goal.returns-clause-owned
 returns-clause-owned c =
+    let slice = c.promote-copy.ensures in
     copied_owned c.args.heap.now c.args.seat.now c.promote-copy.new.seat c.args.sorts.now
-    c.hold_records.new.sorts c.args.local.now c.promote-copy.new.self c.args.most c.requires.owned
-    c.requires.inside c.promote-copy.ensures.seat c.promote-copy.ensures.grown c.hold_records.ensures.held
-    c.promote-copy.ensures.local (ap (λ (l : Local). l.roots) c.promote-copy.ensures.only)
+    c.hold_records.new.sorts c.args.local.now c.promote-copy.new.self c.args.most
+    c.requires.owned c.requires.inside slice.seat slice.grown c.hold_records.ensures.held
+    slice.local (ap (λ (l : Local). l.roots) slice.only)
 
 pub returns-clause-copies : goal.returns-clause-copies
 returns-clause-copies c = record {

@@ -26,10 +26,11 @@ hold_records-requires c =
 
 pub returns-clause-owned : goal.returns-clause-owned
 returns-clause-owned c =
+    let slice = c.copy_slice-progress.ensures in
     copied_owned c.args.heap.now c.args.seat.now c.copy_slice-progress.new.seat c.args.sorts.now
-    c.hold_records.new.sorts c.args.local.now c.copy_slice-progress.new.self c.args.most c.requires.owned
-    c.requires.inside c.copy_slice-progress.ensures.seat c.copy_slice-progress.ensures.grown c.hold_records.ensures.held
-    c.copy_slice-progress.ensures.local (ap (λ (l : Local). l.roots) c.copy_slice-progress.ensures.only)
+    c.hold_records.new.sorts c.args.local.now c.copy_slice-progress.new.self c.args.most
+    c.requires.owned c.requires.inside slice.seat slice.grown c.hold_records.ensures.held
+    slice.local (ap (λ (l : Local). l.roots) slice.only)
 
 pub returns-clause-copies : goal.returns-clause-copies
 returns-clause-copies c = record {
