@@ -1,4 +1,5 @@
 mod Anchored
+mod Boxes
 mod Ending
 mod Opens
 mod Rounds

@@ -4,7 +4,9 @@ ghost use Rattle.client_heap.specs.Once.{sound_once};
 ghost use Rattle.client_heap.specs.Sound.{IsSound};
 
 use crate::cutting::cut_newer;
+use crate::places::cut_back;
 use crate::seat::StoreSeat;
+use crate::walking::node_below;
 use aged_nursery::AgedNursery;
 use client_session::{ClientHeap, CommitRefusal};
 use client_trees::NodeAt;
@@ -17,9 +19,9 @@ use version_store::HeldVersion;
 
 /// What a client works on, borrowed for a command.
 #[derive(Drop)]
-pub struct OwnHeap<'a, M: StoreSeat<Q>, Q> {
+pub struct OwnHeap<'a, M: StoreSeat> {
     m: &'a mut M,
-    hints: &'a mut Q,
+    hints: &'a mut M::Hints,
     nursery: &'a mut AgedNursery,
     promoter: &'a mut Promoter,
     draft: NodeAt,
@@ -31,16 +33,16 @@ pub struct OwnHeap<'a, M: StoreSeat<Q>, Q> {
     ghost copies: { nursery.now.heap.room ≤ promoter.now },
 }
 
-impl<'a, M: StoreSeat<Q>, Q> OwnHeap<'a, M, Q> {
+impl<'a, M: StoreSeat> OwnHeap<'a, M> {
     /// What a client works on while it answers a command.
     pub fn new(
         m: &'a mut M,
-        hints: &'a mut Q,
+        hints: &'a mut M::Hints,
         nursery: &'a mut AgedNursery,
         promoter: &'a mut Promoter,
         draft: NodeAt,
         base: usize,
-    ) -> OwnHeap<'a, M, Q>
+    ) -> OwnHeap<'a, M>
         requires sound { IsSound (M.bound m.old) nursery.old.heap draft base }
         requires whole { nursery.old.heap.room ≡ nursery.old.records }
         requires copies { nursery.old.heap.room ≤ promoter.old }
@@ -80,7 +82,7 @@ impl<'a, M: StoreSeat<Q>, Q> OwnHeap<'a, M, Q> {
     }
 }
 
-impl<'a, M: StoreSeat<Q>, Q> ClientHeap for OwnHeap<'a, M, Q> {
+impl<'a, M: StoreSeat> ClientHeap for OwnHeap<'a, M> {
     ghost use Rattle.client_heap.specs.Lent.{Lent, identity_of};
     ghost use Rattle.client_heap.specs.Shows.{cell_of, handles_of, state_of};
     ghost use Rattle.client_trees.specs.Records.{is_shared};
@@ -130,20 +132,19 @@ impl<'a, M: StoreSeat<Q>, Q> ClientHeap for OwnHeap<'a, M, Q> {
     }
 
     fn node(&mut self, root: NodeAt, path: &Path) -> Option<NodeAt> {
-        self.m
-            .node_below(self.nursery.heap_mut(), root, path.names())
+        node_below(self.m, self.nursery.heap_mut(), root, path.names())
     }
 
     fn text(&mut self, alloc: Global, at: NodeAt) -> Result<Text, NoMemory> {
-        self.m.text_of(alloc, self.nursery.heap_mut(), at)
+        client_trees::text_of(alloc, self.m, self.nursery.heap_mut(), at)
     }
 
     fn names(&mut self, alloc: Global, at: NodeAt) -> Result<Names, NoMemory> {
-        self.m.names(alloc, self.nursery.heap_mut(), at)
+        client_trees::names(alloc, self.m, self.nursery.heap_mut(), at)
     }
 
     fn count(&mut self, at: NodeAt) -> u64 {
-        self.m.count(self.nursery.heap_mut(), at)
+        client_trees::count(self.m, self.nursery.heap_mut(), at)
     }
 
     fn draft(&self) -> NodeAt {
@@ -151,15 +152,15 @@ impl<'a, M: StoreSeat<Q>, Q> ClientHeap for OwnHeap<'a, M, Q> {
     }
 
     fn set_text(&mut self, root: NodeAt, path: &Path, text: &Text) -> Result<NodeAt, EditFault> {
-        self.m.set_text(self.nursery.heap_mut(), root, path, text)
+        client_trees::set_text(self.m, self.nursery.heap_mut(), root, path, text)
     }
 
     fn delete(&mut self, root: NodeAt, path: &Path) -> Result<NodeAt, EditFault> {
-        self.m.delete(self.nursery.heap_mut(), root, path)
+        client_trees::delete(self.m, self.nursery.heap_mut(), root, path)
     }
 
     fn attach(&mut self, root: NodeAt, path: &Path, sub: NodeAt) -> Result<NodeAt, EditFault> {
-        self.m.attach(self.nursery.heap_mut(), root, path, sub)
+        client_trees::attach(self.m, self.nursery.heap_mut(), root, path, sub)
     }
 
     fn set_draft(&mut self, at: NodeAt) {
@@ -225,7 +226,7 @@ impl<'a, M: StoreSeat<Q>, Q> ClientHeap for OwnHeap<'a, M, Q> {
     }
 
     fn settle(&mut self) {
-        self.m.cut_back(self.nursery.heap(), self.base);
+        cut_back(self.m, self.nursery.heap(), self.base);
         cut_newer(self.nursery, self.draft);
     }
 

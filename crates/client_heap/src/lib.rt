@@ -26,4 +26,4 @@ mod seat;
 mod walking;
 
 pub use heap::OwnHeap;
-pub use seat::{DocumentSeat, StoreSeat};
+pub use seat::StoreSeat;

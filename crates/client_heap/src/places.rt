@@ -8,23 +8,24 @@ ghost use Rattle.client_trees.specs.Nodes.{IsTreeAt};
 ghost use Rattle.heap_rule.specs.Asks.{known_of, target};
 
 use client_history::Documents;
+use client_trees::ClientSeat;
 use minor_heap::MinorHeap;
 use mutator_seat::Mutator;
 
 /// Gives back all places except the first so many.
-pub(crate) fn cut_back(m: &mut Mutator<'_, Documents>, minor: &MinorHeap, places: usize)
-    requires inside { m.old.seat.me.presence.inside ≡ true }
+pub(crate) fn cut_back<M: ClientSeat<Pass = Documents>>(m: &mut M, minor: &MinorHeap, places: usize)
+    requires inside { (M.bound m.old).seat.me.presence.inside ≡ true }
     requires some { 1 ≤ places }
-    requires kept { places ≤ length m.old.seat.me.own.held }
-    ensures carries { Carries places m.old m.new minor.now minor.now }
-    ensures held { length m.new.seat.me.own.held ≡ places }
-    ensures pass { m.new.seat.me.pass ≡ m.old.seat.me.pass }
-    ensures claims { m.new.seat.me.own.claims ≡ m.old.seat.me.own.claims }
+    requires kept { places ≤ length (M.bound m.old).seat.me.own.held }
+    ensures carries { Carries places (M.bound m.old) (M.bound m.new) minor.now minor.now }
+    ensures held { length (M.bound m.new).seat.me.own.held ≡ places }
+    ensures pass { (M.bound m.new).seat.me.pass ≡ (M.bound m.old).seat.me.pass }
+    ensures claims { (M.bound m.new).seat.me.own.claims ≡ (M.bound m.old).seat.me.own.claims }
 {
     // As much is known as is held, and records name only older ones.
-    let _held = m.held_len();
+    let _held = m.held_count();
     let _records = minor.len();
-    m.cut(places);
+    m.cut_to(places);
 }
 
 /// Whether the nodes at two places are in the same cell, and so have the same term.

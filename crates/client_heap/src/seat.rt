@@ -1,307 +1,152 @@
-//! A mutator of documents, with hints: what a client's heap needs of both. The calls take the
-//! private heap in use; `make_room` and `make_room_for` take the nursery, since they alone may age.
+//! A mutator of documents with its hints: what a client's heap needs of both in addition to what
+//! trees need. The calls take the private heap in use; `make_room` and `make_room_for` take the
+//! nursery, since they alone may age.
 ghost use Rattle.std.specs.Prelude.{◌≡◌, ◌<◌, ◌≤◌, ◌+◌, IfErr, IfOk, OnErr};
-ghost use Rattle.std.specs.Prelude.{OnOk, Err, [], ◌∷◌, IfSome, IsNone, None, Ok, length, max};
+ghost use Rattle.std.specs.Prelude.{OnOk, Err, [], IfSome, IsNone, None, Ok, length, max};
 ghost use Rattle.std.specs.Prelude.{◌==◌, true};
-ghost use Rattle.std.specs.Option.{ForSome, option_map};
-ghost use Rattle.std.specs.Result.{ForOk};
-ghost use Rattle.cell_words.specs.declared.fields.Field.TheVariants as field;
 ghost use Rattle.client_heap.specs.Carries.{Carries, Follows};
 ghost use Rattle.client_heap.specs.Shows.{node_term};
 ghost use Rattle.client_heap.specs.Sound.{HasRoom, IsCleared, IsSound, is_cleared};
 ghost use Rattle.client_trees.specs.Records.{is_shared};
 ghost use Rattle.client_trees.specs.declared.at.NodeAt.TheVariants as at;
-ghost use Rattle.client_trees.specs.Leaves.{Leaves, LeavesAll};
 ghost use Rattle.client_trees.specs.Nodes.{IsTreeAt, tree_at};
-ghost use Rattle.doc_records.specs.Texts.{name_asks, text_asks};
 ghost use Rattle.doc_records.specs.Trees.{IsTreeNode, tree_of};
-ghost use Rattle.doc_tree.specs.Edits.{answered, attach, delete, set_text};
-ghost use Rattle.doc_tree.specs.Tree.{count, names_of, node};
 ghost use Rattle.free_cells.specs.declared.queue.FreeQueue.{FreeQueue};
 ghost use Rattle.heap_rule.specs.Asks.{target};
-ghost use Rattle.mutator_seat.specs.Bound.{Bound};
-ghost use Rattle.trails.specs.Asks.{Shows, gave};
+ghost use Rattle.trails.specs.Asks.{Shows};
 ghost use Rattle.trails.specs.Claims.{IsFull};
-ghost use Rattle.trails.specs.Marks.{marks_of};
 ghost use Rattle.trails.specs.Stretches.{Had};
-ghost use Rattle.version_rule.specs.Pass.{Pass, commit_numbers, committed};
-ghost use Rattle.version_store.specs.Calls.{Holds};
+ghost use Rattle.version_rule.specs.Pass.{commit_numbers, committed};
 ghost use Rattle.version_rule.specs.Shows.{version_asks};
+ghost use Rattle.version_store.specs.Calls.{Holds};
 ghost use Rattle.version_store.specs.Commits.{FindsNewer};
 ghost use Rattle.version_store.specs.Held.{GivesLatest, GivesRoot, IsHeld, root_at};
 ghost use Rattle.version_store.specs.Lasts.{IsSameMutator, LastsAcross, marks};
 ghost use Rattle.version_store.specs.Older.{GivesOlder, Trims};
 
 use aged_nursery::AgedNursery;
-use client_history::{CALL_PLACES, EDIT_SPARE, READY_ROOM, SETTLED_ROOM};
+use client_history::{CALL_PLACES, Documents, READY_ROOM, SETTLED_ROOM};
 use client_session::CommitRefusal;
-use client_trees::NodeAt;
-use doc_edits::EDIT_RECORDS;
-use doc_tree::{EditFault, Name, Names, NoMemory, Path, Text};
+use client_trees::{ClientSeat, NodeAt};
 use minor_heap::MinorHeap;
 use mutator_seat::HeapFull;
 use promotion::Promoter;
-use std::alloc::Global;
 use std::sync::Wait;
 use version_store::{Cut, HeldVersion, STORE_PLACES};
 
-/// A mutator of documents, as one of a type that names no lifetime: the state of what is lent in a
-/// struct is known again when the loan ends, if its type is a parameter.
-pub trait DocumentSeat {
-    ghost bound: { Self → Bound Pass };
+/// A client's seat with what the versions of a store and its own heap need of it.
+pub trait StoreSeat: ClientSeat<Pass = Documents> {
+    /// The hints that it works with, borrowed for as long as its heap is.
+    type Hints;
+
+    /// The queue that the hints are of.
+    ghost queue: { Self.Hints → FreeQueue };
 
     /// The latest version.
     fn current(&mut self) -> HeldVersion
-        requires inside { (bound self.old).seat.me.presence.inside ≡ true }
-        requires room { length (bound self.old).seat.me.own.held + STORE_PLACES
-            ≤ (bound self.old).seat.me.room }
-        ensures latest { GivesLatest (bound self.old) (bound self.new) result }
-        ensures seen { (bound self.new).seat.me.pass.seen ≡ result.number }
-        ensures shows { Shows (version_asks (target (bound self.new).seat.me result.place)
-            result.number) (marks (bound self.old)) (marks (bound self.new)) }
-        ensures lasts { LastsAcross (bound self.old) (bound self.new) }
-        ensures same { IsSameMutator (bound self.old) (bound self.new) };
+        requires inside { (Self.bound self.old).seat.me.presence.inside ≡ true }
+        requires room { length (Self.bound self.old).seat.me.own.held + STORE_PLACES
+            ≤ (Self.bound self.old).seat.me.room }
+        ensures latest { GivesLatest (Self.bound self.old) (Self.bound self.new) result }
+        ensures seen { (Self.bound self.new).seat.me.pass.seen ≡ result.number }
+        ensures shows { Shows (version_asks (target (Self.bound self.new).seat.me result.place)
+            result.number) (marks (Self.bound self.old)) (marks (Self.bound self.new)) }
+        ensures lasts { LastsAcross (Self.bound self.old) (Self.bound self.new) }
+        ensures same { IsSameMutator (Self.bound self.old) (Self.bound self.new) };
 
     /// The root of a version's tree.
     fn tree(&mut self, v: HeldVersion) -> usize
-        requires inside { (bound self.old).seat.me.presence.inside ≡ true }
-        requires room { length (bound self.old).seat.me.own.held + STORE_PLACES
-            ≤ (bound self.old).seat.me.room }
-        requires version { IsHeld (bound self.old) v }
-        ensures root { GivesRoot IsTreeNode tree_of (bound self.old) (bound self.new) v result }
-        ensures lasts { LastsAcross (bound self.old) (bound self.new) }
-        ensures same { IsSameMutator (bound self.old) (bound self.new) };
+        requires inside { (Self.bound self.old).seat.me.presence.inside ≡ true }
+        requires room { length (Self.bound self.old).seat.me.own.held + STORE_PLACES
+            ≤ (Self.bound self.old).seat.me.room }
+        requires version { IsHeld (Self.bound self.old) v }
+        ensures root { GivesRoot IsTreeNode tree_of (Self.bound self.old) (Self.bound self.new) v
+            result }
+        ensures lasts { LastsAcross (Self.bound self.old) (Self.bound self.new) }
+        ensures same { IsSameMutator (Self.bound self.old) (Self.bound self.new) };
 
     /// The version so many below, or a newer one that was read.
     fn older(&mut self, v: HeldVersion, back: u64) -> Result<HeldVersion, Cut>
-        requires inside { (bound self.old).seat.me.presence.inside ≡ true }
-        requires room { length (bound self.old).seat.me.own.held + STORE_PLACES
-            ≤ (bound self.old).seat.me.room }
-        requires version { IsHeld (bound self.old) v }
+        requires inside { (Self.bound self.old).seat.me.presence.inside ≡ true }
+        requires room { length (Self.bound self.old).seat.me.own.held + STORE_PLACES
+            ≤ (Self.bound self.old).seat.me.room }
+        requires version { IsHeld (Self.bound self.old) v }
         requires back { back ≤ v.number }
-        requires kept { back < (bound self.old).seat.me.pass.keep }
+        requires kept { back < (Self.bound self.old).seat.me.pass.keep }
         ensures older { IfOk result (λ older.
-            GivesOlder (bound self.old) (bound self.new) v back older) }
+            GivesOlder (Self.bound self.old) (Self.bound self.new) v back older) }
         ensures cut { IfErr result (λ cut.
-            FindsNewer (bound self.old) (bound self.new) v cut.newer) }
-        ensures held { OnErr result (Holds [] (bound self.old) (bound self.new)) }
-        ensures claims { (bound self.new).seat.me.own.claims
-            ≡ (bound self.old).seat.me.own.claims }
-        ensures lasts { LastsAcross (bound self.old) (bound self.new) }
-        ensures same { IsSameMutator (bound self.old) (bound self.new) };
+            FindsNewer (Self.bound self.old) (Self.bound self.new) v cut.newer) }
+        ensures held { OnErr result (Holds [] (Self.bound self.old) (Self.bound self.new)) }
+        ensures claims { (Self.bound self.new).seat.me.own.claims
+            ≡ (Self.bound self.old).seat.me.own.claims }
+        ensures lasts { LastsAcross (Self.bound self.old) (Self.bound self.new) }
+        ensures same { IsSameMutator (Self.bound self.old) (Self.bound self.new) };
 
     /// Cuts off what is older than the `keep` versions up to this one.
     fn trim(&mut self, v: HeldVersion, keep: u64)
-        requires inside { (bound self.old).seat.me.presence.inside ≡ true }
-        requires room { length (bound self.old).seat.me.own.held + STORE_PLACES
-            ≤ (bound self.old).seat.me.room }
-        requires version { IsHeld (bound self.old) v }
-        requires setting { keep ≡ (bound self.old).seat.me.pass.keep }
-        ensures trims { keep ≤ v.number → Trims (bound self.old) (bound self.new) v keep }
-        ensures nothing { v.number < keep → bound self.new ≡ bound self.old }
-        ensures held { Holds [] (bound self.old) (bound self.new) }
-        ensures lasts { LastsAcross (bound self.old) (bound self.new) }
-        ensures same { IsSameMutator (bound self.old) (bound self.new) };
-
-    /// The node at the end of a path down from a node.
-    fn node_below(&mut self, minor: &mut MinorHeap, at: NodeAt, names: &[Name]) -> Option<NodeAt>
-        requires inside { (bound self.old).seat.me.presence.inside ≡ true }
-        requires node { IsTreeAt (bound self.old) minor.old at }
-        requires room { length (bound self.old).seat.me.own.held + (CALL_PLACES + length names.now)
-            ≤ (bound self.old).seat.me.room }
-        ensures tree { option_map (tree_at (bound self.new) minor.new) result
-            ≡ node names.now (tree_at (bound self.old) minor.old at) }
-        ensures node { ForSome result (IsTreeAt (bound self.new) minor.new) }
-        ensures shared { is_shared at ≡ true → ForSome result (λ a. is_shared a ≡ true) }
-        ensures carries { Carries (length (bound self.old).seat.me.own.held)
-            (bound self.old) (bound self.new) minor.old minor.new }
-        ensures pass { (bound self.new).seat.me.pass ≡ (bound self.old).seat.me.pass }
-        ensures claims { (bound self.new).seat.me.own.claims
-            ≡ (bound self.old).seat.me.own.claims }
-        ensures minor { minor.new ≡ minor.old }
-        ensures held { length (bound self.new).seat.me.own.held
-            ≤ length (bound self.old).seat.me.own.held + length names.now };
-
-    /// The text of a node.
-    fn text_of(
-        &mut self,
-        alloc: Global,
-        minor: &mut MinorHeap,
-        at: NodeAt,
-    ) -> Result<Text, NoMemory>
-        requires inside { (bound self.old).seat.me.presence.inside ≡ true }
-        requires node { IsTreeAt (bound self.old) minor.old at }
-        requires room { length (bound self.old).seat.me.own.held + CALL_PLACES
-            ≤ (bound self.old).seat.me.room }
-        ensures text { IfOk result (λ text. text
-            ≡ (tree_at (bound self.old) minor.old at).text) }
-        ensures leaves { LeavesAll (bound self.old) (bound self.new) minor.old minor.new }
-        ensures shows { OnOk result (is_shared at ≡ true
-            → Shows (text_asks (tree_at (bound self.old) minor.old at).text)
-            (marks_of (bound self.old).seat.me.trail) (marks_of (bound self.new).seat.me.trail)) };
-
-    /// The names of a node's children.
-    fn names(&mut self, alloc: Global, minor: &mut MinorHeap, at: NodeAt) -> Result<Names, NoMemory>
-        requires inside { (bound self.old).seat.me.presence.inside ≡ true }
-        requires node { IsTreeAt (bound self.old) minor.old at }
-        requires room { length (bound self.old).seat.me.own.held + CALL_PLACES
-            ≤ (bound self.old).seat.me.room }
-        ensures names { IfOk result (λ names. names
-            ≡ names_of (tree_at (bound self.old) minor.old at).kids) }
-        ensures leaves { LeavesAll (bound self.old) (bound self.new) minor.old minor.new }
-        ensures shows { OnOk result (is_shared at ≡ true
-            → Shows (name_asks (names_of (tree_at (bound self.old) minor.old at).kids))
-            (marks_of (bound self.old).seat.me.trail) (marks_of (bound self.new).seat.me.trail)) };
-
-    /// How many nodes the tree of a node has.
-    fn count(&mut self, minor: &mut MinorHeap, at: NodeAt) -> u64
-        requires inside { (bound self.old).seat.me.presence.inside ≡ true }
-        requires node { IsTreeAt (bound self.old) minor.old at }
-        requires room { length (bound self.old).seat.me.own.held + CALL_PLACES
-            ≤ (bound self.old).seat.me.room }
-        ensures count { result ≡ count (tree_at (bound self.old) minor.old at) }
-        ensures leaves { LeavesAll (bound self.old) (bound self.new) minor.old minor.new }
-        ensures shows { is_shared at ≡ true → Shows (gave (field.Num result) ∷ [])
-            (marks_of (bound self.old).seat.me.trail) (marks_of (bound self.new).seat.me.trail) };
-
-    /// The tree with a text at a path.
-    fn set_text(
-        &mut self,
-        minor: &mut MinorHeap,
-        root: NodeAt,
-        path: &Path,
-        text: &Text,
-    ) -> Result<NodeAt, EditFault>
-        requires inside { (bound self.old).seat.me.presence.inside ≡ true }
-        requires node { IsTreeAt (bound self.old) minor.old root }
-        requires room { length (bound self.old).seat.me.own.held + CALL_PLACES
-            ≤ (bound self.old).seat.me.room }
-        requires spare { length minor.old.records + EDIT_SPARE ≤ minor.old.room }
-        ensures tree { answered (tree_at (bound self.new) minor.new) result
-            ≡ set_text path.now text.now (tree_at (bound self.old) minor.old root) }
-        ensures node { ForOk result (IsTreeAt (bound self.new) minor.new) }
-        ensures leaves { Leaves (bound self.old) (bound self.new) minor.old minor.new }
-        ensures held { length (bound self.new).seat.me.own.held
-            ≤ length (bound self.old).seat.me.own.held + CALL_PLACES }
-        ensures refused { OnErr result (length (bound self.new).seat.me.own.held
-            ≡ length (bound self.old).seat.me.own.held) }
-        ensures records { length minor.new.records ≤ length minor.old.records + EDIT_RECORDS };
-
-    /// The tree without the node at a path.
-    fn delete(
-        &mut self,
-        minor: &mut MinorHeap,
-        root: NodeAt,
-        path: &Path,
-    ) -> Result<NodeAt, EditFault>
-        requires inside { (bound self.old).seat.me.presence.inside ≡ true }
-        requires node { IsTreeAt (bound self.old) minor.old root }
-        requires room { length (bound self.old).seat.me.own.held + CALL_PLACES
-            ≤ (bound self.old).seat.me.room }
-        requires spare { length minor.old.records + EDIT_SPARE ≤ minor.old.room }
-        ensures tree { answered (tree_at (bound self.new) minor.new) result
-            ≡ delete path.now (tree_at (bound self.old) minor.old root) }
-        ensures node { ForOk result (IsTreeAt (bound self.new) minor.new) }
-        ensures leaves { Leaves (bound self.old) (bound self.new) minor.old minor.new }
-        ensures held { length (bound self.new).seat.me.own.held
-            ≤ length (bound self.old).seat.me.own.held + CALL_PLACES }
-        ensures refused { OnErr result (length (bound self.new).seat.me.own.held
-            ≡ length (bound self.old).seat.me.own.held) }
-        ensures records { length minor.new.records ≤ length minor.old.records + EDIT_RECORDS };
-
-    /// The tree with another node's tree at a path.
-    fn attach(
-        &mut self,
-        minor: &mut MinorHeap,
-        root: NodeAt,
-        path: &Path,
-        sub: NodeAt,
-    ) -> Result<NodeAt, EditFault>
-        requires inside { (bound self.old).seat.me.presence.inside ≡ true }
-        requires node { IsTreeAt (bound self.old) minor.old root }
-        requires sub { IsTreeAt (bound self.old) minor.old sub }
-        requires room { length (bound self.old).seat.me.own.held + CALL_PLACES
-            ≤ (bound self.old).seat.me.room }
-        requires spare { length minor.old.records + EDIT_SPARE ≤ minor.old.room }
-        ensures tree { answered (tree_at (bound self.new) minor.new) result
-            ≡ attach path.now (tree_at (bound self.old) minor.old sub)
-            (tree_at (bound self.old) minor.old root) }
-        ensures node { ForOk result (IsTreeAt (bound self.new) minor.new) }
-        ensures leaves { Leaves (bound self.old) (bound self.new) minor.old minor.new }
-        ensures held { length (bound self.new).seat.me.own.held
-            ≤ length (bound self.old).seat.me.own.held + CALL_PLACES }
-        ensures refused { OnErr result (length (bound self.new).seat.me.own.held
-            ≡ length (bound self.old).seat.me.own.held) }
-        ensures records { length minor.new.records ≤ length minor.old.records + EDIT_RECORDS };
+        requires inside { (Self.bound self.old).seat.me.presence.inside ≡ true }
+        requires room { length (Self.bound self.old).seat.me.own.held + STORE_PLACES
+            ≤ (Self.bound self.old).seat.me.room }
+        requires version { IsHeld (Self.bound self.old) v }
+        requires setting { keep ≡ (Self.bound self.old).seat.me.pass.keep }
+        ensures trims { keep ≤ v.number → Trims (Self.bound self.old) (Self.bound self.new) v keep }
+        ensures nothing { v.number < keep → Self.bound self.new ≡ Self.bound self.old }
+        ensures held { Holds [] (Self.bound self.old) (Self.bound self.new) }
+        ensures lasts { LastsAcross (Self.bound self.old) (Self.bound self.new) }
+        ensures same { IsSameMutator (Self.bound self.old) (Self.bound self.new) };
 
     /// Makes a node the draft.
     fn make_draft(&mut self, minor: &MinorHeap, draft: &mut NodeAt, base: &mut usize, at: NodeAt)
-        requires sound { IsSound (bound self.old) minor.now draft.old base.old }
-        requires node { IsTreeAt (bound self.old) minor.now at }
-        requires room { length (bound self.old).seat.me.own.held + length minor.now.records
-            + SETTLED_ROOM ≤ (bound self.old).seat.me.room }
-        ensures sound { IsSound (bound self.new) minor.now draft.new base.new }
-        ensures term { node_term (bound self.new) minor.now draft.new
-            ≡ node_term (bound self.old) minor.now at }
-        ensures pass { (bound self.new).seat.me.pass ≡ (bound self.old).seat.me.pass }
-        ensures held { length (bound self.new).seat.me.own.held
-            ≤ length (bound self.old).seat.me.own.held }
-        ensures follows { Follows (bound self.old) (bound self.new) minor.now minor.now };
+        requires sound { IsSound (Self.bound self.old) minor.now draft.old base.old }
+        requires node { IsTreeAt (Self.bound self.old) minor.now at }
+        requires room { length (Self.bound self.old).seat.me.own.held + length minor.now.records
+            + SETTLED_ROOM ≤ (Self.bound self.old).seat.me.room }
+        ensures sound { IsSound (Self.bound self.new) minor.now draft.new base.new }
+        ensures term { node_term (Self.bound self.new) minor.now draft.new
+            ≡ node_term (Self.bound self.old) minor.now at }
+        ensures pass { (Self.bound self.new).seat.me.pass ≡ (Self.bound self.old).seat.me.pass }
+        ensures held { length (Self.bound self.new).seat.me.own.held
+            ≤ length (Self.bound self.old).seat.me.own.held }
+        ensures follows { Follows (Self.bound self.old) (Self.bound self.new) minor.now minor.now };
 
     /// Whether the nodes at two places are in the same cell, and so have the same term.
     fn is_same(&mut self, minor: &MinorHeap, first: usize, second: usize) -> bool
-        requires inside { (bound self.old).seat.me.presence.inside ≡ true }
-        requires first { IsTreeAt (bound self.old) minor.now (at.Shared first) }
-        requires second { IsTreeAt (bound self.old) minor.now (at.Shared second) }
-        ensures same { result ≡ (target (bound self.old).seat.me first
-            == target (bound self.old).seat.me second) }
-        ensures term { result ≡ true → node_term (bound self.old) minor.now (at.Shared first)
-            ≡ node_term (bound self.old) minor.now (at.Shared second) }
-        ensures carries { Carries (length (bound self.old).seat.me.own.held)
-            (bound self.old) (bound self.new) minor.now minor.now }
-        ensures held { length (bound self.new).seat.me.own.held
-            ≡ length (bound self.old).seat.me.own.held }
-        ensures pass { (bound self.new).seat.me.pass ≡ (bound self.old).seat.me.pass }
-        ensures claims { (bound self.new).seat.me.own.claims
-            ≡ (bound self.old).seat.me.own.claims };
+        requires inside { (Self.bound self.old).seat.me.presence.inside ≡ true }
+        requires first { IsTreeAt (Self.bound self.old) minor.now (at.Shared first) }
+        requires second { IsTreeAt (Self.bound self.old) minor.now (at.Shared second) }
+        ensures same { result ≡ (target (Self.bound self.old).seat.me first
+            == target (Self.bound self.old).seat.me second) }
+        ensures term { result ≡ true → node_term (Self.bound self.old) minor.now (at.Shared first)
+            ≡ node_term (Self.bound self.old) minor.now (at.Shared second) }
+        ensures carries { Carries (length (Self.bound self.old).seat.me.own.held)
+            (Self.bound self.old) (Self.bound self.new) minor.now minor.now }
+        ensures held { length (Self.bound self.new).seat.me.own.held
+            ≡ length (Self.bound self.old).seat.me.own.held }
+        ensures pass { (Self.bound self.new).seat.me.pass ≡ (Self.bound self.old).seat.me.pass }
+        ensures claims { (Self.bound self.new).seat.me.own.claims
+            ≡ (Self.bound self.old).seat.me.own.claims };
 
     /// Whether there is room for an edit, so that none has to be made.
     fn has_room(&self, minor: &MinorHeap) -> bool
-        ensures room { result ≡ is_cleared (bound self.now) minor.now };
+        ensures room { result ≡ is_cleared (Self.bound self.now) minor.now };
 
     /// Answers a handshake, if one is asked for.
     fn safe_point(&mut self, minor: &MinorHeap)
-        requires inside { (bound self.old).seat.me.presence.inside ≡ true }
-        ensures carries { Carries (length (bound self.old).seat.me.own.held)
-            (bound self.old) (bound self.new) minor.now minor.now }
-        ensures held { length (bound self.new).seat.me.own.held
-            ≡ length (bound self.old).seat.me.own.held }
-        ensures pass { (bound self.new).seat.me.pass ≡ (bound self.old).seat.me.pass }
-        ensures claims { (bound self.new).seat.me.own.claims
-            ≡ (bound self.old).seat.me.own.claims };
-
-    /// Gives back all places except the first so many.
-    fn cut_back(&mut self, minor: &MinorHeap, places: usize)
-        requires inside { (bound self.old).seat.me.presence.inside ≡ true }
-        requires some { 1 ≤ places }
-        requires kept { places ≤ length (bound self.old).seat.me.own.held }
-        ensures carries { Carries places (bound self.old) (bound self.new) minor.now minor.now }
-        ensures held { length (bound self.new).seat.me.own.held ≡ places }
-        ensures claims { (bound self.new).seat.me.own.claims
-            ≡ (bound self.old).seat.me.own.claims }
-        ensures pass { (bound self.new).seat.me.pass ≡ (bound self.old).seat.me.pass };
-}
-
-/// The same with the hints that it works with: what claims cells.
-pub trait StoreSeat<Q>: DocumentSeat {
-    /// The queue that the hints are of.
-    ghost queue: { Q → FreeQueue };
+        requires inside { (Self.bound self.old).seat.me.presence.inside ≡ true }
+        ensures carries { Carries (length (Self.bound self.old).seat.me.own.held)
+            (Self.bound self.old) (Self.bound self.new) minor.now minor.now }
+        ensures held { length (Self.bound self.new).seat.me.own.held
+            ≡ length (Self.bound self.old).seat.me.own.held }
+        ensures pass { (Self.bound self.new).seat.me.pass ≡ (Self.bound self.old).seat.me.pass }
+        ensures claims { (Self.bound self.new).seat.me.own.claims
+            ≡ (Self.bound self.old).seat.me.own.claims };
 
     /// A node as one of the shared heap: a private one is promoted.
     fn share<R: Wait>(
         &mut self,
         rt: &R,
-        hints: &mut Q,
+        hints: &mut Self::Hints,
         minor: &MinorHeap,
         promoter: &mut Promoter,
         node: NodeAt,
@@ -329,7 +174,7 @@ pub trait StoreSeat<Q>: DocumentSeat {
     fn commit<R: Wait>(
         &mut self,
         rt: &R,
-        hints: &mut Q,
+        hints: &mut Self::Hints,
         minor: &MinorHeap,
         v: HeldVersion,
         node: NodeAt,
@@ -362,12 +207,11 @@ pub trait StoreSeat<Q>: DocumentSeat {
             ≡ length (Self.bound self.old).seat.me.own.held }
         ensures queue { queue hints.new ≡ queue hints.old };
 
-    /// Makes room for an edit where there is too little: the private records age once, or are
     /// collected.
     fn make_room<R: Wait>(
         &mut self,
         rt: &R,
-        hints: &mut Q,
+        hints: &mut Self::Hints,
         nursery: &mut AgedNursery,
         promoter: &mut Promoter,
         draft: &mut NodeAt,
@@ -398,12 +242,11 @@ pub trait StoreSeat<Q>: DocumentSeat {
         ensures promoter { promoter.new ≡ promoter.old }
         ensures queue { queue hints.new ≡ queue hints.old };
 
-    /// Makes room for one more edit of a tree in the making where there is too little: the private
     /// records age once, or are collected.
     fn make_room_for<R: Wait>(
         &mut self,
         rt: &R,
-        hints: &mut Q,
+        hints: &mut Self::Hints,
         nursery: &mut AgedNursery,
         promoter: &mut Promoter,
         draft: &mut NodeAt,

@@ -40,7 +40,8 @@ use Rattle.client_history.specs.Agreed.{EachShowsLog, IsCutFar, LogsAgree, Shows
 use Rattle.client_history.specs.Closing.{EndedStore}
 use Rattle.client_history.specs.Left.{AreLeft, IsClientLeft, IsLeft}
 use Rattle.client_history.proofs.Finding.{IsFoundIn, found_in, last_risen, oks_joined, oks_of}
-use Rattle.client_history.proofs.Indices.{all_within, at_below, at_once, at_read, at_there, rising_at}
+use Rattle.client_history.proofs.Indices.{all_within, at_below, at_once, at_read, at_there}
+use Rattle.client_history.proofs.Indices.{rising_at}
 use Rattle.client_history.proofs.Indices.{zip_at}
 use Rattle.client_history.proofs.InTurn.{turn_had}
 

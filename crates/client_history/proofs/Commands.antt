@@ -28,10 +28,12 @@ use Rattle.trails.specs.Claims.{IsFull}
 use Rattle.trails.specs.Stretches.{Had}
 use Rattle.version_rule.specs.Fits.{Fits}
 use Rattle.version_rule.specs.Pass.{Pass}
-use Rattle.client_history.specs.Progress.{Drafts, HasRead, IsAccount, KnowsTree, MakesNone, runs_out}
+use Rattle.client_history.specs.Progress.{Drafts, HasRead, IsAccount, KnowsTree, MakesNone}
+use Rattle.client_history.specs.Progress.{runs_out}
 use Rattle.client_history.specs.State.{ClientState, IsReady}
 use Rattle.client_history.specs.Turns.{Begun, Turned}
-use Rattle.client_history.proofs.Answering.{chosen_first, chosen_second, refusal_full, refusal_not_ok}
+use Rattle.client_history.proofs.Answering.{chosen_first, chosen_second, refusal_full}
+use Rattle.client_history.proofs.Answering.{refusal_not_ok}
 use Rattle.client_history.proofs.Spared.{all_spared, attach_spared, attached_spared, delete_spared}
 use Rattle.client_history.proofs.Spared.{set_text_spared}
 use Rattle.client_history.proofs.Turning.{begun_new, begun_refused, draft_full_turned, draft_turned}

@@ -14,10 +14,10 @@ use std::sync::Wait;
 
 /// Answers the next command. The mutator is lent for it, and the session lends its private heap:
 /// both come back with all that the next command needs.
-pub(crate) fn answer_over<M: StoreSeat<Q>, Q, R: Wait>(
+pub(crate) fn answer_over<M: StoreSeat, R: Wait>(
     alloc: Global,
     rt: &R,
-    hints: &mut Q,
+    hints: &mut M::Hints,
     m: &mut M,
     session: &mut Session,
     command: &Command,

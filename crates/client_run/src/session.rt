@@ -74,12 +74,12 @@ impl Session {
 
     /// Answers the client's next command, with an entry in its log. Where memory runs out nothing
     /// is made, and the draft and the log are as before.
-    pub fn answer<R: Wait>(
+    pub fn answer<'h, R: Wait>(
         &mut self,
         alloc: Global,
         rt: &R,
-        hints: &mut Hints<'_>,
-        m: &mut Mutator<'_, Documents>,
+        hints: &mut Hints<'h>,
+        m: &mut Mutator<'h, Documents>,
         command: &Command,
     ) -> Result<Reply, NoMemory>
         requires may { MayAnswer self.old m.old }

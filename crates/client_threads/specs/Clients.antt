@@ -5,6 +5,7 @@ use Rattle.std.specs.Prelude.{Vec}
 use Rattle.std.specs.declared.alloc.Global.{Global}
 use Rattle.beside_collector.specs.Places.{AllFrom}
 use Rattle.beside_collector.specs.Scripts.{script_of}
+use Rattle.client_history.specs.declared.places.TheConstants.{PLACES_BESIDES, PLACES_PER_RECORD}
 use Rattle.client_run.specs.Own.{IsBegun, MayAnswer}
 use Rattle.client_session.specs.declared.journal.Limits.{Limits}
 use Rattle.client_run.specs.declared.session.Session.{Session}
@@ -25,10 +26,10 @@ use Rattle.version_rule.specs.Pass.{Pass, opening_pass}
 abbrev pub store_limits : Limits → StoreLimits
 store_limits l = record { keep = l.keep; versions = l.versions }
 
--- the places of a client's mutator: four for each private record that there is room for, and some
--- more
+-- the places of a client's mutator: some for each private record that there is room for, and others
+-- besides
 abbrev pub places_for : ℕ → ℕ
-places_for minor = 4 * minor + 16_384
+places_for minor = PLACES_PER_RECORD * minor + PLACES_BESIDES
 
 -- the commands that were answered
 abbrev pub commands_of : List Entry → List Command

@@ -49,11 +49,11 @@ pub fn await_gate<R: Wait, G: Gate>(
 }
 
 /// Answers the next command, unless memory runs out.
-fn answer_next<R: Wait>(
+fn answer_next<'h, R: Wait>(
     alloc: Global,
     rt: &R,
-    hints: &mut Hints<'_>,
-    m: &mut Mutator<'_, Documents>,
+    hints: &mut Hints<'h>,
+    m: &mut Mutator<'h, Documents>,
     session: &mut Session,
     command: &Command,
 ) -> bool
@@ -68,12 +68,12 @@ fn answer_next<R: Wait>(
 }
 
 /// Answers the command with this number, when the gate lets it begin.
-fn take_turn<R: Wait, G: Gate>(
+fn take_turn<'h, R: Wait, G: Gate>(
     alloc: Global,
     rt: &R,
     gate: &G,
-    hints: &mut Hints<'_>,
-    m: &mut Mutator<'_, Documents>,
+    hints: &mut Hints<'h>,
+    m: &mut Mutator<'h, Documents>,
     session: &mut Session,
     number: u32,
     command: &Command,
@@ -102,12 +102,12 @@ fn reserve_entries(session: &mut Session, entries: usize)
 }
 
 /// Answers the commands of a script, up to the first for which memory runs out.
-pub(crate) fn answer_all<R: Wait, G: Gate>(
+pub(crate) fn answer_all<'h, R: Wait, G: Gate>(
     alloc: Global,
     rt: &R,
     gate: &G,
-    hints: &mut Hints<'_>,
-    m: &mut Mutator<'_, Documents>,
+    hints: &mut Hints<'h>,
+    m: &mut Mutator<'h, Documents>,
     session: &mut Session,
     script: &[Command],
 ) -> bool

@@ -4,7 +4,7 @@ ghost use Rattle.client_threads.specs.Clients.{IsNewClient};
 ghost use Rattle.client_threads.specs.Opened.{IsOpenStore};
 
 use crate::clients::Client;
-use client_history::Documents;
+use client_history::{Documents, LEAST_MINOR, PLACES_BESIDES, PLACES_PER_RECORD};
 use client_run::{Limits, Session};
 use collector::NoMemory;
 use mutator_threads::{Opened, open};
@@ -16,7 +16,7 @@ use version_store::opening_rows;
 /// A client for the mutator with this number. Its own number is one more.
 pub fn new_client(alloc: Global, number: u32, limits: Limits) -> Result<Client, NoMemory>
     requires few { number < 64 }
-    requires minor { (4_096 ≤ limits.minor) × (limits.minor ≤ 262_144) }
+    requires minor { (LEAST_MINOR ≤ limits.minor) × (limits.minor ≤ 262_144) }
     ensures made { IfOk result (λ client. IsNewClient limits number client) }
 {
     let session = Session::new(alloc, number + 1, limits)?;
@@ -36,16 +36,16 @@ pub fn open_store<R: Threads + Wait + Sync>(
 ) -> Result<Opened<Documents, Client>, NoMemory>
     requires few { clients ≤ 64 }
     requires cells { (64 ≤ cells) × (cells ≤ 4_194_304) }
-    requires minor { (4_096 ≤ limits.minor) × (limits.minor ≤ 262_144) }
+    requires minor { (LEAST_MINOR ≤ limits.minor) × (limits.minor ≤ 262_144) }
     requires keep { (1 ≤ limits.keep) × (limits.keep ≤ 100) }
     ensures opened { IfOk result (λ made. IsOpenStore cells clients limits made) }
 {
     let rows = opening_rows();
     let own = move |number: u32| -> Result<Client, NoMemory>
-        requires { (number < 64) × (4_096 ≤ limits.minor) × (limits.minor ≤ 262_144) }
+        requires { (number < 64) × (LEAST_MINOR ≤ limits.minor) × (limits.minor ≤ 262_144) }
         ensures { IfOk result (λ client. IsNewClient limits number client) }
     { new_client(alloc, number, limits) };
     let keep = u64::from(limits.keep);
-    let room = 4 * limits.minor + 16_384;
+    let room = PLACES_PER_RECORD * limits.minor + PLACES_BESIDES;
     open(alloc, rt, cells, clients, keep, &rows, room, own)
 }

@@ -18,12 +18,12 @@ use std::sync::Wait;
 
 /// Answers a client's script. Its mutator comes in before and is over afterwards. The limits are
 /// those that its session was made with: only contracts read them.
-pub fn run_client<R: Wait, G: Gate>(
+pub fn run_client<'x, R: Wait, G: Gate>(
     alloc: Global,
     rt: &R,
     gate: &G,
-    heap: &CellHeap<Documents>,
-    queue: &FreeQueue,
+    heap: &'x CellHeap<Documents>,
+    queue: &'x FreeQueue,
     scripts: &[Vec<Command>],
     limits: Limits,
     number: u32,

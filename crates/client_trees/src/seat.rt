@@ -19,9 +19,10 @@ use std::marker::Brand;
 /// A mutator, as one of a type that names no lifetime: the state of what is lent in a struct is
 /// known again when the loan ends, if its type is a parameter.
 pub trait ClientSeat {
-    ghost Pass: { Type 0 };
+    /// What the client's rule knows of the mutator.
+    type Pass;
 
-    ghost bound: { Self → Bound Pass };
+    ghost bound: { Self → Bound Self.Pass };
 
     /// How many places are held.
     fn held_count(&self) -> usize
@@ -62,7 +63,7 @@ pub trait ClientSeat {
 }
 
 impl<'h, P: Keeping> ClientSeat for Mutator<'h, P> {
-    ghost Pass = { P };
+    type Pass = P;
 
     ghost bound = { λ m. m };
 

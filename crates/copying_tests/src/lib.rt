@@ -1,5 +1,5 @@
-//! What no clause says of record_copying and local_records: rows that were worked out by hand, on the words of a heap
-//! and of a private heap, where a copy ends early and goes on.
+//! What no clause says of record_copying and local_records: rows that were worked out by hand, on
+//! the words of a heap and of a private heap, where a copy ends early and goes on.
 //!
 //! Reading order: `heaps`, `cells`, `slices`, `locals`, `rows`.
 #![tactic(auto)]

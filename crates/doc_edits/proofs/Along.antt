@@ -5,6 +5,7 @@ use Rattle.std.proofs.Common.{arith, ◌-◌, take, drop, get_or, take_all}
 use Rattle.std.specs.Option.{ForSome, option_map}
 use Rattle.std.proofs.lemmas.Bool.Decides.{nat_tests}
 use Rattle.cell_words.specs.Term.{Term, null, num, five}
+use Rattle.doc_tree.specs.declared.tree.TheConstants.Tree.{MOST_CHILDREN}
 use Rattle.doc_tree.specs.declared.edit.EditFault.{EditFault}
 use Rattle.doc_tree.specs.declared.edit.EditFault.TheVariants as fault
 use Rattle.doc_tree.specs.Edits.{begun, start, with_child, with_text, edit_along, within_limits}
@@ -46,11 +47,13 @@ text_node t u bytes text same spelled is made =
 pub begun_there : (n : List ℕ) (t d : DocTree) → Some d ≡ child n t.kids → Ok d ≡ start n t
 begun_there n t d there = rw (sym there) refl
 
-pub begun_new : (n : List ℕ) (t : DocTree) → None ≡ child n t.kids → kid_count t.kids < 256
+pub begun_new : (n : List ℕ) (t : DocTree) → None ≡ child n t.kids
+    → kid_count t.kids < MOST_CHILDREN
     → Ok empty ≡ start n t
 begun_new n t none room = rw (sym none) (grind (arith, nat_tests, room))
 
-pub begun_many : (n : List ℕ) (t : DocTree) → None ≡ child n t.kids → 256 ≤ kid_count t.kids
+pub begun_many : (n : List ℕ) (t : DocTree) → None ≡ child n t.kids
+    → MOST_CHILDREN ≤ kid_count t.kids
     → Err fault.Many ≡ start n t
 begun_many n t none full = rw (sym none) (grind (arith, nat_tests, full))
 
@@ -113,9 +116,10 @@ along_stop make (m ∷ names) n t f some first begun =
 
 -- where an edit goes on in none there is room for a child
 pub begun_room : (n : List ℕ) (t d : DocTree) → Ok d ≡ start n t → child n t.kids ≡ None
-    → kid_count t.kids < 256
+    → kid_count t.kids < MOST_CHILDREN
 begun_room n t d begun none =
-    let full : 256 ≤ kid_count t.kids → ⊥ = λ many. cc (begun_many n t (sym none) many, begun) in
+    let full : MOST_CHILDREN ≤ kid_count t.kids → ⊥ =
+    λ many. cc (begun_many n t (sym none) many, begun) in
     omega (arith, full)
 
 -- what a call leaves of an end and of a node, or none
@@ -125,7 +129,8 @@ made_same s t (ends.Text text) later stands = refl
 made_same s t (ends.Node a) later stands =
     let make : Term → DocTree → DocTree = λ u d. tree_of u in ap make (later.same a stands.stands)
 
-pub top_still : {At F : Type 0} (s t : Shown At F) (o : Option At) → Later s t → IsTop s o → IsTop t o
+pub top_still : {At F : Type 0} (s t : Shown At F) (o : Option At) → Later s t → IsTop s o
+    → IsTop t o
 top_still s t None later top = tt
 top_still s t (Some a) later top = record {
   stands = later.now a top.stands;
@@ -156,7 +161,8 @@ child_same s t None later top = refl
 child_same s t (Some a) later top = ap (λ u. Some (tree_of u)) (later.same a top.stands)
 
 -- how large the tree is then
-pub within_step : {At F : Type 0} (s : Shown At F) (o : Option At) (n : List ℕ) (d : DocTree) (k m : ℕ)
+pub within_step : {At F : Type 0} (s : Shown At F) (o : Option At) (n : List ℕ) (d : DocTree)
+    (k m : ℕ)
     → IsTop s o → IsWithin k d → m ≡ k + 1 → IsWithin m (with_child n d (tree_under s o))
 within_step s o n d k m top is more =
     let few = top_few s o top in

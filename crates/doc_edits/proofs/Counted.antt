@@ -2,6 +2,7 @@
 -- still stand after a call.
 use Rattle.std.proofs.Common.{◌≡◌, ℕ, zero, suc, ◌+◌, ◌<◌, ◌≤◌, refl, sym, ap, subst, arith}
 use Rattle.cell_words.specs.Term.{Term, part, number, IsFive}
+use Rattle.doc_tree.specs.declared.tree.TheConstants.Tree.{MOST_CHILDREN}
 use Rattle.doc_tree.specs.Tree.{Kids, IsRising, no_kids, kid, kid_count, nodes_below}
 use Rattle.doc_tree.proofs.Joined.{count_join}
 use Rattle.kids_avl.specs.Entries.{Entries, no_entries, entry, height_of, kids_of}
@@ -9,6 +10,7 @@ use Rattle.doc_records.specs.declared.pool.Part.{Part}
 use Rattle.doc_records.specs.declared.pool.Part.TheVariants as parts
 use Rattle.doc_records.specs.Pool.{Later, Shown}
 use Rattle.doc_records.specs.Trees.{AreEntries, IsNode, entries_of, tree_of}
+use Rattle.doc_edits.specs.declared.bounds.TheConstants.{FEW_LEVELS, FEW_NODES}
 use Rattle.doc_edits.specs.Tops.{IsRowAt, row_of}
 use Rattle.doc_edits.proofs.Sized.{own_nodes}
 
@@ -29,7 +31,7 @@ few_under (suc n) (entry m d l r) low =
       count_join (kids_of l) (kid m d.text d.kids (kids_of r)),
     )
 
-pub few_low : (t : Entries) → height_of t ≤ 8 → kid_count (kids_of t) < 256
+pub few_low : (t : Entries) → height_of t ≤ FEW_LEVELS → kid_count (kids_of t) < MOST_CHILDREN
 few_low t low = grind (arith, few_under 8 t low)
 
 -- each child counts itself, so a node of few nodes has few children
@@ -37,7 +39,8 @@ kids_below : (kids : Kids) → kid_count kids ≤ nodes_below kids
 kids_below no_kids = omega arith
 kids_below (kid name text inside rest) = omega (arith, kids_below rest)
 
-pub kids_few : (t : Term) → IsNode t → number (part 2 t) ≤ 256 → kid_count (tree_of t).kids < 256
+pub kids_few : (t : Term) → IsNode t → number (part 2 t) ≤ FEW_NODES
+    → kid_count (tree_of t).kids < MOST_CHILDREN
 kids_few t is few = omega (arith, few, own_nodes t is, kids_below (tree_of t).kids)
 
 pub row_still : {At F : Type 0} (s t : Shown At F) (p : Part At) → Later s t → IsRowAt s p
@@ -55,7 +58,7 @@ row_still s t (parts.Record a) later row =
       stands = (later.now a row.stands.0, subst IsFive same row.stands.1);
       entries = subst AreEntries same row.entries;
       rising = subst (λ u. IsRising (kids_of (entries_of u))) same row.rising;
-      few = subst (λ u. kid_count (kids_of (entries_of u)) ≤ 256) same row.few;
+      few = subst (λ u. kid_count (kids_of (entries_of u)) ≤ MOST_CHILDREN) same row.few;
     }
 
 pub row_same : {At F : Type 0} (s t : Shown At F) (p : Part At) → Later s t → IsRowAt s p

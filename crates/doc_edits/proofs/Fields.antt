@@ -4,6 +4,7 @@ use Rattle.std.proofs.Common.{refl, ap, arith, true}
 use Rattle.std.proofs.lemmas.Bool.Decides.{nat_tests}
 use Rattle.cell_words.specs.Term.{Term, null, num, five, part, number, IsFive}
 use Rattle.doc_tree.specs.Words.{is_name}
+use Rattle.kids_avl.specs.declared.bounds.TheConstants.{MOST_LEVELS}
 use Rattle.kids_avl.specs.Entries.{entry, name_of, child_of, left_of, right_of, height_of}
 use Rattle.kids_avl.specs.Entries.{IsEntry, IsBalanced}
 use Rattle.doc_records.specs.declared.pool.Part.{Part}
@@ -112,7 +113,7 @@ side_entries s made (parts.Num n) side = absurd side
 side_entries s made (parts.Record a) side = side.entries
 
 pub side_low : {At F : Type 0} (s : Shown At F) (made : ℕ) (p : Part At) → IsSideAt s made p
-    → height_of (entries_of (part_term s.term p)) ≤ 11 + made
+    → height_of (entries_of (part_term s.term p)) ≤ MOST_LEVELS + made
 side_low s made parts.Null side = omega arith
 side_low s made (parts.Num n) side = absurd side
 side_low s made (parts.Record a) side = side.low

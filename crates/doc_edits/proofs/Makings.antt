@@ -2,6 +2,7 @@
 use Rattle.std.proofs.Common.{◌≡◌, ℕ, ◌+◌, ◌≤◌, refl, sym, ap, subst, ◌∙◌, arith}
 use Rattle.std.proofs.Common.{List, Option, None, Some}
 use Rattle.cell_words.specs.Term.{Term, null, num, five, part}
+use Rattle.doc_tree.specs.declared.tree.TheConstants.Tree.{MOST_CHILDREN}
 use Rattle.doc_tree.specs.Edits.{delete_child, with_child, without_child}
 use Rattle.doc_tree.specs.Tree.{DocTree, Kids, count, height_below, put_child}
 use Rattle.doc_tree.specs.Tree.{nodes_below, IsRising, kid_count}
@@ -27,7 +28,7 @@ row_opened s p t is same stands = record {
   stands = stands;
   entries = subst AreEntries (sym same) (node_entries t is.node);
   rising = subst (λ u. IsRising (kids_of (entries_of u))) (sym same) (node_rising t is);
-  few = subst (λ u. kid_count (kids_of (entries_of u)) ≤ 256) (sym same) (node_few t is);
+  few = subst (λ u. kid_count (kids_of (entries_of u)) ≤ MOST_CHILDREN) (sym same) (node_few t is);
 }
 
 pub row_none : {At F : Type 0} (s : Shown At F) → IsRowAt s parts.Null

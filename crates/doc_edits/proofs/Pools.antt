@@ -2,10 +2,12 @@
 use Rattle.std.proofs.Common.{◌≡◌, ℕ, ◌+◌, ◌<◌, ◌≤◌, ◌∙◌, Option, None, Some, ap, arith, refl}
 use Rattle.std.proofs.Common.{subst, sym}
 use Rattle.cell_words.specs.Term.{IsFive}
+use Rattle.doc_tree.specs.declared.tree.TheConstants.Tree.{MOST_CHILDREN}
 use Rattle.doc_tree.specs.Tree.{IsRising, kid_count}
+use Rattle.kids_avl.specs.declared.bounds.TheConstants.{MOST_LEVELS}
 use Rattle.kids_avl.specs.Entries.{IsBalanced, IsEntry, height_of, kids_of}
 use Rattle.kids_avl.specs.Pool.{under, Later as LaterEntries, Stand}
-use Rattle.kids_avl.proofs.Heights.{at_most_eleven}
+use Rattle.kids_avl.proofs.Heights.{at_most_levels}
 use Rattle.doc_records.specs.declared.pool.Part.{Part}
 use Rattle.doc_records.specs.declared.pool.Part.TheVariants as parts
 use Rattle.doc_records.specs.Pool.{Shown, Later, part_term}
@@ -35,7 +37,7 @@ row_stands shown s parts.Null o is row place = rw is tt
 row_stands shown s (parts.Num n) o is row place = rw is tt
 row_stands shown s (parts.Record a) o is row place =
     let t = (shown s.records.now).term a in
-    let high = at_most_eleven (entries_of t) (balanced t row.entries) row.few in
+    let high = at_most_levels (entries_of t) (balanced t row.entries) row.few in
     rw is (record {
       stands = row.stands.0;
       five = row.stands.1;
@@ -70,7 +72,7 @@ entry_still s t made now a later place more is =
       five = subst IsFive same is.five;
       entries = subst AreEntries same is.entries;
       entry = subst (λ u. IsEntry (entries_of u)) same is.entry;
-      low = subst (λ u. height_of (entries_of u) ≤ 11 + now) same (omega (arith, is.low));
+      low = subst (λ u. height_of (entries_of u) ≤ MOST_LEVELS + now) same (omega (arith, is.low));
       place = place;
     }
 
@@ -138,7 +140,7 @@ kids_row shown s p (Some a) is = rw is refl
 pub row_made : {R At F : Type 0} (shown : R → Shown At F) (s : EntryPool R) (p : Part At)
     (o : Option At) → p ≡ part_of o → Stand (stands_in shown) s o
     → IsRising (kids_of (under (entries_in shown) s o))
-    → kid_count (kids_of (under (entries_in shown) s o)) ≤ 256
+    → kid_count (kids_of (under (entries_in shown) s o)) ≤ MOST_CHILDREN
     → IsRowAt (shown s.records.now) p
 row_made shown s p None is stand rising few = rw is (row_none (shown s.records.now))
 row_made shown s p (Some a) is stand rising few =

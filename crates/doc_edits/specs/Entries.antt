@@ -2,6 +2,7 @@
 -- Source: this project's.
 use Rattle.std.specs.Prelude.{◌≡◌, ℕ, ◌+◌, ◌-◌, ◌≤◌, ◌<◌, ◌^◌, Option, Some, None, min}
 use Rattle.cell_words.specs.Term.{IsFive}
+use Rattle.kids_avl.specs.declared.bounds.TheConstants.{MOST_LEVELS}
 use Rattle.kids_avl.specs.Entries.{IsEntry, height_of}
 use Rattle.doc_records.specs.declared.pool.Part.{Part}
 use Rattle.doc_records.specs.declared.pool.Part.TheVariants as parts
@@ -15,7 +16,7 @@ pub record IsEntryAt {At F : Type 0} (s : Shown At F) (made : ℕ) (a : At) : Ty
   pub five : IsFive (s.term a)
   pub entries : AreEntries (s.term a)
   pub entry : IsEntry (entries_of (s.term a))
-  pub low : height_of (entries_of (s.term a)) ≤ 11 + made
+  pub low : height_of (entries_of (s.term a)) ≤ MOST_LEVELS + made
   pub place : s.held < s.room
 
 -- the entries on one side of an entry, or none

@@ -1,6 +1,7 @@
 -- What edits go by: the children of a node, the node itself, and that there may be none of both.
 -- Source: this project's.
 use Rattle.std.specs.Prelude.{ℕ, ◌+◌, ◌*◌, ◌≤◌, Option, Some, None}
+use Rattle.doc_tree.specs.declared.tree.TheConstants.Tree.{MOST_CHILDREN}
 use Rattle.doc_tree.specs.Tree.{DocTree, Kids, empty, kid_count, count, height, IsRising}
 use Rattle.kids_avl.specs.Entries.{kids_of}
 use Rattle.doc_records.specs.declared.pool.Part.{Part}
@@ -16,7 +17,7 @@ pub record IsRowAt {At F : Type 0} (s : Shown At F) (p : Part At) : Type 0 where
   pub stands : Stands s p
   pub entries : AreEntries (part_term s.term p)
   pub rising : IsRising (row_of s p)
-  pub few : kid_count (row_of s p) ≤ 256
+  pub few : kid_count (row_of s p) ≤ MOST_CHILDREN
 
 -- the node of a lawful tree stands here
 pub record IsTreeAt {At F : Type 0} (s : Shown At F) (a : At) : Type 0 where

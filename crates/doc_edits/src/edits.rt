@@ -14,7 +14,8 @@ ghost use Rattle.doc_edits.specs.Ends.{StandsAtEnd, made_at};
 ghost use Rattle.doc_edits.specs.Tops.{IsTop, IsTreeAt, IsWithin, tree_under};
 
 use crate::bounds::{
-    EDIT_PLACES, EDIT_RECORDS, END_PLACES, LEVEL_PLACES, LEVEL_RECORDS, TEXT_RECORDS,
+    BEGIN_PLACES, EDIT_PLACES, EDIT_RECORDS, END_PLACES, FEW_NODES, LEVEL_PLACES, LEVEL_RECORDS,
+    ROOM_PLACES, STEP_PLACES, TEXT_RECORDS,
 };
 use crate::nodes::{open, with_child};
 use crate::rows::has_room;
@@ -71,19 +72,19 @@ fn at_end<R: RecordPool>(records: &mut R, at: Option<R::At>, end: End<'_, R::At>
     }
 }
 
-// A node has room for one more child. One of at most 256 nodes, itself counted, has fewer children
-// than that, so only the children of larger ones are counted.
+// A node has room for one more child. One of at most `FEW_NODES` nodes, itself counted, has fewer
+// children than that, so only the children of larger ones are counted.
 #[tactic(auto, using(crate::proofs::Sized::child_fields, crate::proofs::Counted::kids_few))]
 fn node_has_room<R: RecordPool>(records: &mut R, node: R::At) -> bool
     requires node { IsTreeAt (R.shown records.old) node }
-    requires places { (R.shown records.old).held + 515 ≤ (R.shown records.old).room }
+    requires places { (R.shown records.old).held + ROOM_PLACES ≤ (R.shown records.old).room }
     ensures room { IsTrue result ↔ (kid_count (tree_of ((R.shown records.old).term node)).kids
-        < 256) }
+        < Tree.MOST_CHILDREN) }
     ensures later { Later (R.shown records.old) (R.shown records.new) }
     ensures held { (R.shown records.new).held ≤ (R.shown records.old).held + 2 }
     ensures records { (R.shown records.new).records ≡ (R.shown records.old).records }
 {
-    if read_number(records, node, NODE_COUNT) <= 256 {
+    if read_number(records, node, NODE_COUNT) <= FEW_NODES {
         return true;
     }
     let opened = open(records, Some(node));
@@ -99,7 +100,7 @@ fn begin_new<R: RecordPool>(
 ) -> Result<Option<R::At>, EditFault>
     requires node { IsTreeAt (R.shown records.old) node }
     requires none { child_of_name name.now (tree_of ((R.shown records.old).term node)).kids ≡ None }
-    requires places { (R.shown records.old).held + 515 ≤ (R.shown records.old).room }
+    requires places { (R.shown records.old).held + ROOM_PLACES ≤ (R.shown records.old).room }
     ensures begun { answered (tree_under (R.shown records.new)) result
         ≡ start name.now (tree_of ((R.shown records.old).term node)) }
     ensures none { ForOk result (λ o. o ≡ None) }
@@ -123,7 +124,7 @@ fn begin<R: RecordPool>(
     name: &Name,
 ) -> Result<Option<R::At>, EditFault>
     requires top { IsTop (R.shown records.old) at }
-    requires places { (R.shown records.old).held + 579 ≤ (R.shown records.old).room }
+    requires places { (R.shown records.old).held + BEGIN_PLACES ≤ (R.shown records.old).room }
     ensures begun { answered (tree_under (R.shown records.new)) result
         ≡ start name.now (tree_under (R.shown records.old) at) }
     ensures there { ForOk result
@@ -131,7 +132,7 @@ fn begin<R: RecordPool>(
         ≡ child_of_name name.now (tree_under (R.shown records.old) at).kids) }
     ensures child { ForOk result (IsTop (R.shown records.new)) }
     ensures later { Later (R.shown records.old) (R.shown records.new) }
-    ensures held { (R.shown records.new).held ≤ (R.shown records.old).held + 66 }
+    ensures held { (R.shown records.new).held ≤ (R.shown records.old).held + STEP_PLACES }
     ensures records { (R.shown records.new).records ≡ (R.shown records.old).records }
 {
     let Some(node) = at else {

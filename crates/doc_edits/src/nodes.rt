@@ -10,11 +10,11 @@ ghost use Rattle.doc_records.specs.Trees.{IsNodeAt, tree_of};
 ghost use Rattle.doc_edits.specs.Sizes.{Changes};
 ghost use Rattle.doc_edits.specs.Tops.{IsRowAt, IsTop, IsTreeAt, row_of, tree_under};
 
-use crate::bounds::LEVEL_RECORDS;
+use crate::bounds::{LEVEL_RECORDS, LEVELS_PLACES, MAKING_PLACES, NODE_PLACES, WITHOUT_RECORDS};
 use crate::rows::{with_entry, without_entry};
 use crate::sizes::{Change, change_of, sizes_after};
 use doc_records::{NODE_ENTRIES, NODE_TEXT, Part, RecordPool, make_text, read_part, with_text};
-use doc_tree::{Name, Text};
+use doc_tree::{Name, Text, Tree};
 
 // What a node is made of.
 #[derive(Clone, Copy)]
@@ -67,7 +67,7 @@ fn make_node<R: RecordPool>(
     requires row { IsRowAt (R.shown records.old) entries }
     requires change { Changes change (row_of (R.shown records.old) entries) }
     requires low { height_below (row_of (R.shown records.old) entries) < 2 ^ 61 }
-    requires places { (R.shown records.old).held + 769 ≤ (R.shown records.old).room }
+    requires places { (R.shown records.old).held + LEVELS_PLACES ≤ (R.shown records.old).room }
     requires records { 1 ≤ (R.shown records.old).records }
     ensures node { IsNodeAt (R.shown records.new) result }
     ensures tree { tree_of ((R.shown records.new).term result)
@@ -102,14 +102,14 @@ pub(crate) fn with_child<R: RecordPool>(
     requires few { count (tree_of ((R.shown records.old).term child)) ≤ 10_000_000_000 }
     requires low { height (tree_of ((R.shown records.old).term child)) ≤ 100 }
     requires room { child_of_name name.now (tree_under (R.shown records.old) at).kids ≡ None
-        → kid_count (tree_under (R.shown records.old) at).kids < 256 }
-    requires places { (R.shown records.old).held + 1027 ≤ (R.shown records.old).room }
+        → kid_count (tree_under (R.shown records.old) at).kids < Tree.MOST_CHILDREN }
+    requires places { (R.shown records.old).held + MAKING_PLACES ≤ (R.shown records.old).room }
     requires records { LEVEL_RECORDS ≤ (R.shown records.old).records }
     ensures node { IsNodeAt (R.shown records.new) result }
     ensures tree { tree_of ((R.shown records.new).term result) ≡ with_child name.now
         (tree_of ((R.shown records.old).term child)) (tree_under (R.shown records.old) at) }
     ensures later { Later (R.shown records.old) (R.shown records.new) }
-    ensures held { (R.shown records.new).held ≤ (R.shown records.old).held + 258 }
+    ensures held { (R.shown records.new).held ≤ (R.shown records.old).held + NODE_PLACES }
     ensures records { (R.shown records.old).records
         ≤ (R.shown records.new).records + LEVEL_RECORDS }
 {
@@ -131,14 +131,15 @@ pub(crate) fn without_child<R: RecordPool>(
     requires was { IsNodeAt (R.shown records.old) was }
     requires there { Some (tree_of ((R.shown records.old).term was))
         ≡ child_of_name name.now (tree_of ((R.shown records.old).term at)).kids }
-    requires places { (R.shown records.old).held + 1027 ≤ (R.shown records.old).room }
-    requires records { 34 ≤ (R.shown records.old).records }
+    requires places { (R.shown records.old).held + MAKING_PLACES ≤ (R.shown records.old).room }
+    requires records { WITHOUT_RECORDS ≤ (R.shown records.old).records }
     ensures node { IsNodeAt (R.shown records.new) result }
     ensures tree { tree_of ((R.shown records.new).term result) ≡ without_child name.now
         (tree_of ((R.shown records.old).term at)) }
     ensures later { Later (R.shown records.old) (R.shown records.new) }
-    ensures held { (R.shown records.new).held ≤ (R.shown records.old).held + 258 }
-    ensures records { (R.shown records.old).records ≤ (R.shown records.new).records + 34 }
+    ensures held { (R.shown records.new).held ≤ (R.shown records.old).held + NODE_PLACES }
+    ensures records { (R.shown records.old).records
+        ≤ (R.shown records.new).records + WITHOUT_RECORDS }
 {
     let change = change_of(records, Some(at), Some(was), None);
     let node = open(records, Some(at));

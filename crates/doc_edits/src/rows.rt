@@ -7,10 +7,11 @@ ghost use Rattle.doc_records.specs.Trees.{IsNodeAt, tree_of};
 ghost use Rattle.doc_edits.specs.Entries.{IsKept};
 ghost use Rattle.doc_edits.specs.Tops.{IsRowAt, row_of};
 
+use crate::bounds::{FEW_LEVELS, LEN_PLACES, MOST_ENTRIES, PUT_PLACES, REMOVE_PLACES};
 use crate::entries::{EntryPool, part_of, side_height, top_of};
 use doc_records::{Part, RecordPool};
-use doc_tree::Name;
-use kids_avl::{len, put, remove};
+use doc_tree::{Name, Tree};
+use kids_avl::{CHANGE_PLACES, PUT_RECORDS, REMOVE_RECORDS, len, put, remove};
 
 // Puts a child in a pool of entries that was just made.
 fn put_in<'a, R: RecordPool>(
@@ -24,10 +25,10 @@ fn put_in<'a, R: RecordPool>(
     requires row { IsRowAt (R.shown pool.old.records.now) top }
     requires child { IsNodeAt (R.shown pool.old.records.now) child }
     requires room { child_of_name name.now (row_of (R.shown pool.old.records.now) top) ≡ None
-        → kid_count (row_of (R.shown pool.old.records.now) top) < 256 }
-    requires places { (R.shown pool.old.records.now).held + 257
+        → kid_count (row_of (R.shown pool.old.records.now) top) < Tree.MOST_CHILDREN }
+    requires places { (R.shown pool.old.records.now).held + PUT_PLACES
         ≤ (R.shown pool.old.records.now).room }
-    requires records { 38 ≤ (R.shown pool.old.records.now).records }
+    requires records { PUT_RECORDS ≤ (R.shown pool.old.records.now).records }
     ensures kids { row_of (R.shown pool.new.records.now) result ≡ put_child name.now
         (tree_of ((R.shown pool.old.records.now).term child))
         (row_of (R.shown pool.old.records.now) top) }
@@ -35,9 +36,9 @@ fn put_in<'a, R: RecordPool>(
     ensures kept { IsKept (R.shown pool.old.records.now) (R.shown pool.new.records.now)
         pool.old.records.ghost_name pool.new.records.ghost_name }
     ensures held { (R.shown pool.new.records.now).held
-        ≤ (R.shown pool.old.records.now).held + 256 }
+        ≤ (R.shown pool.old.records.now).held + CHANGE_PLACES }
     ensures records { (R.shown pool.old.records.now).records
-        ≤ (R.shown pool.new.records.now).records + 38 }
+        ≤ (R.shown pool.new.records.now).records + PUT_RECORDS }
 {
     Part::Record(put(pool, top_of(top), name, child))
 }
@@ -52,15 +53,15 @@ pub(crate) fn with_entry<R: RecordPool>(
     requires row { IsRowAt (R.shown records.old) top }
     requires child { IsNodeAt (R.shown records.old) child }
     requires room { child_of_name name.now (row_of (R.shown records.old) top) ≡ None
-        → kid_count (row_of (R.shown records.old) top) < 256 }
-    requires places { (R.shown records.old).held + 257 ≤ (R.shown records.old).room }
-    requires records { 38 ≤ (R.shown records.old).records }
+        → kid_count (row_of (R.shown records.old) top) < Tree.MOST_CHILDREN }
+    requires places { (R.shown records.old).held + PUT_PLACES ≤ (R.shown records.old).room }
+    requires records { PUT_RECORDS ≤ (R.shown records.old).records }
     ensures kids { row_of (R.shown records.new) result ≡ put_child name.now
         (tree_of ((R.shown records.old).term child)) (row_of (R.shown records.old) top) }
     ensures row { IsRowAt (R.shown records.new) result }
     ensures later { Later (R.shown records.old) (R.shown records.new) }
-    ensures held { (R.shown records.new).held ≤ (R.shown records.old).held + 256 }
-    ensures records { (R.shown records.old).records ≤ (R.shown records.new).records + 38 }
+    ensures held { (R.shown records.new).held ≤ (R.shown records.old).held + CHANGE_PLACES }
+    ensures records { (R.shown records.old).records ≤ (R.shown records.new).records + PUT_RECORDS }
 {
     // There are few records, and so few entries.
     let _ = records.held();
@@ -79,18 +80,18 @@ fn remove_in<'a, R: RecordPool>(
     requires row { IsRowAt (R.shown pool.old.records.now) top }
     requires listed { IsSome (child_of_name name.now
         (row_of (R.shown pool.old.records.now) top)) }
-    requires places { (R.shown pool.old.records.now).held + 258
+    requires places { (R.shown pool.old.records.now).held + REMOVE_PLACES
         ≤ (R.shown pool.old.records.now).room }
-    requires records { 33 ≤ (R.shown pool.old.records.now).records }
+    requires records { REMOVE_RECORDS ≤ (R.shown pool.old.records.now).records }
     ensures kids { row_of (R.shown pool.new.records.now) result ≡ delete_child name.now
         (row_of (R.shown pool.old.records.now) top) }
     ensures row { IsRowAt (R.shown pool.new.records.now) result }
     ensures kept { IsKept (R.shown pool.old.records.now) (R.shown pool.new.records.now)
         pool.old.records.ghost_name pool.new.records.ghost_name }
     ensures held { (R.shown pool.new.records.now).held
-        ≤ (R.shown pool.old.records.now).held + 256 }
+        ≤ (R.shown pool.old.records.now).held + CHANGE_PLACES }
     ensures records { (R.shown pool.old.records.now).records
-        ≤ (R.shown pool.new.records.now).records + 33 }
+        ≤ (R.shown pool.new.records.now).records + REMOVE_RECORDS }
 {
     part_of(remove(pool, top_of(top), name))
 }
@@ -103,14 +104,15 @@ pub(crate) fn without_entry<R: RecordPool>(
 ) -> Part<R::At>
     requires row { IsRowAt (R.shown records.old) top }
     requires listed { IsSome (child_of_name name.now (row_of (R.shown records.old) top)) }
-    requires places { (R.shown records.old).held + 258 ≤ (R.shown records.old).room }
-    requires records { 33 ≤ (R.shown records.old).records }
+    requires places { (R.shown records.old).held + REMOVE_PLACES ≤ (R.shown records.old).room }
+    requires records { REMOVE_RECORDS ≤ (R.shown records.old).records }
     ensures kids { row_of (R.shown records.new) result ≡ delete_child name.now
         (row_of (R.shown records.old) top) }
     ensures row { IsRowAt (R.shown records.new) result }
     ensures later { Later (R.shown records.old) (R.shown records.new) }
-    ensures held { (R.shown records.new).held ≤ (R.shown records.old).held + 256 }
-    ensures records { (R.shown records.old).records ≤ (R.shown records.new).records + 33 }
+    ensures held { (R.shown records.new).held ≤ (R.shown records.old).held + CHANGE_PLACES }
+    ensures records { (R.shown records.old).records
+        ≤ (R.shown records.new).records + REMOVE_RECORDS }
 {
     // There are few records, and so few entries.
     let _ = records.held();
@@ -123,7 +125,7 @@ fn count_in<'a, R: RecordPool>(pool: &mut EntryPool<'a, R>, top: Part<R::At>) ->
     requires fresh { pool.old.made ≡ 0 }
     requires few { (R.shown pool.old.records.now).records ≤ 2 ^ 32 }
     requires row { IsRowAt (R.shown pool.old.records.now) top }
-    requires places { (R.shown pool.old.records.now).held + 513
+    requires places { (R.shown pool.old.records.now).held + LEN_PLACES
         ≤ (R.shown pool.old.records.now).room }
     ensures count { result ≡ kid_count (row_of (R.shown pool.old.records.now) top) }
     ensures kept { IsKept (R.shown pool.old.records.now) (R.shown pool.new.records.now)
@@ -137,7 +139,7 @@ fn count_in<'a, R: RecordPool>(pool: &mut EntryPool<'a, R>, top: Part<R::At>) ->
 fn count_entries<R: RecordPool>(records: &mut R, top: Part<R::At>) -> u32
     requires few { (R.shown records.old).records ≤ 2 ^ 32 }
     requires row { IsRowAt (R.shown records.old) top }
-    requires places { (R.shown records.old).held + 513 ≤ (R.shown records.old).room }
+    requires places { (R.shown records.old).held + LEN_PLACES ≤ (R.shown records.old).room }
     ensures count { result ≡ kid_count (row_of (R.shown records.old) top) }
     ensures later { Later (R.shown records.old) (R.shown records.new) }
     ensures records { (R.shown records.new).records ≡ (R.shown records.old).records }
@@ -150,7 +152,7 @@ fn count_entries<R: RecordPool>(records: &mut R, top: Part<R::At>) -> u32
 #[tactic(auto, using(doc_records::proofs::Spellings::kept_back))]
 fn row_len<R: RecordPool>(records: &mut R, top: Part<R::At>) -> u32
     requires row { IsRowAt (R.shown records.old) top }
-    requires places { (R.shown records.old).held + 513 ≤ (R.shown records.old).room }
+    requires places { (R.shown records.old).held + LEN_PLACES ≤ (R.shown records.old).room }
     ensures count { result ≡ kid_count (row_of (R.shown records.old) top) }
     ensures later { Later (R.shown records.old) (R.shown records.new) }
     ensures held { (R.shown records.new).held ≡ (R.shown records.old).held }
@@ -162,19 +164,19 @@ fn row_len<R: RecordPool>(records: &mut R, top: Part<R::At>) -> u32
     count
 }
 
-/// There is room for one more child. Entries of at most 8 levels are fewer than 256, so only those
-/// of more levels are counted.
+/// There is room for one more child. Only entries of more than `FEW_LEVELS` levels are counted.
 #[tactic(auto, using(crate::proofs::Counted::rooms))]
 pub(crate) fn has_room<R: RecordPool>(records: &mut R, top: Part<R::At>) -> bool
     requires row { IsRowAt (R.shown records.old) top }
-    requires places { (R.shown records.old).held + 513 ≤ (R.shown records.old).room }
-    ensures room { IsTrue result ↔ (kid_count (row_of (R.shown records.old) top) < 256) }
+    requires places { (R.shown records.old).held + LEN_PLACES ≤ (R.shown records.old).room }
+    ensures room { IsTrue result
+        ↔ (kid_count (row_of (R.shown records.old) top) < Tree.MOST_CHILDREN) }
     ensures later { Later (R.shown records.old) (R.shown records.new) }
     ensures held { (R.shown records.new).held ≡ (R.shown records.old).held }
     ensures records { (R.shown records.new).records ≡ (R.shown records.old).records }
 {
-    if side_height(records, top) <= 8 {
+    if side_height(records, top) <= FEW_LEVELS {
         return true;
     }
-    row_len(records, top) < 256
+    row_len(records, top) < MOST_ENTRIES
 }

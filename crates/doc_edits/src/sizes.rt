@@ -13,6 +13,7 @@ ghost use Rattle.doc_edits.specs.Sizes.{Changes, IsChange, levels_in};
 ghost use Rattle.doc_tree.specs.Tree.{nodes_in};
 ghost use Rattle.doc_edits.specs.Tops.{IsRowAt, IsTop, row_of, tree_under};
 
+use crate::bounds::LEVELS_PLACES;
 use doc_records::{
     ENTRY_LEFT, ENTRY_RIGHT, NODE_COUNT, NODE_HEIGHT, Part, RecordPool, entry_child, read_number,
     read_part,
@@ -172,7 +173,7 @@ fn levels_under<R: RecordPool>(records: &mut R, top: Part<R::At>, most: u64) -> 
 fn levels_of<R: RecordPool>(records: &mut R, top: Part<R::At>, most: u64) -> u64
     requires row { IsRowAt (R.shown records.old) top }
     requires most { height_below (row_of (R.shown records.old) top) ≤ most }
-    requires places { (R.shown records.old).held + 769 ≤ (R.shown records.old).room }
+    requires places { (R.shown records.old).held + LEVELS_PLACES ≤ (R.shown records.old).room }
     ensures levels { result ≡ height_below (row_of (R.shown records.old) top) }
     ensures later { Later (R.shown records.old) (R.shown records.new) }
     ensures held { (R.shown records.new).held ≡ (R.shown records.old).held }
@@ -189,7 +190,7 @@ fn levels_of<R: RecordPool>(records: &mut R, top: Part<R::At>, most: u64) -> u64
 pub(crate) fn sizes_after<R: RecordPool>(records: &mut R, change: Change, top: Part<R::At>) -> Sizes
     requires row { IsRowAt (R.shown records.old) top }
     requires change { Changes change (row_of (R.shown records.old) top) }
-    requires places { (R.shown records.old).held + 769 ≤ (R.shown records.old).room }
+    requires places { (R.shown records.old).held + LEVELS_PLACES ≤ (R.shown records.old).room }
     ensures nodes { result.nodes ≡ nodes_below (row_of (R.shown records.old) top) + 1 }
     ensures levels { result.levels ≡ height_below (row_of (R.shown records.old) top) }
     ensures later { Later (R.shown records.old) (R.shown records.new) }

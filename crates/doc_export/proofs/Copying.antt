@@ -16,10 +16,10 @@ use Rattle.mutator_seat.specs.Bound.{Bound, held_cells}
 use Rattle.trails.specs.Asks.{Grown, InOrder, Shows}
 use Rattle.trails.specs.Marks.{Mark}
 use Rattle.trails.proofs.Orders.{grown_then, order_after, order_before}
-use Rattle.version_export.specs.Outcome.{Refuses}
-use Rattle.version_export.specs.declared.fault.DumpFault.{DumpFault}
-use Rattle.version_export.specs.declared.fault.DumpFault.TheVariants as faults
-use Rattle.version_export.proofs.Keeping.{keeps_lasts, keeps_left}
+use Rattle.doc_export.specs.Outcome.{Refuses}
+use Rattle.doc_export.specs.declared.fault.DumpFault.{DumpFault}
+use Rattle.doc_export.specs.declared.fault.DumpFault.TheVariants as faults
+use Rattle.doc_export.proofs.Keeping.{keeps_lasts, keeps_left}
 use Rattle.version_rule.specs.Fits.{Fits, HasTree}
 use Rattle.version_rule.specs.Knowing.{IsVersionKnown, KnowsVersion, root_told, term_or_null}
 use Rattle.version_rule.specs.Pass.{Pass, Reading, reading}

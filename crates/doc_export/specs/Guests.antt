@@ -11,8 +11,9 @@ use Rattle.mutator_threads.specs.Mutators.{IsNew}
 use Rattle.trails.specs.Asks.{InOrder}
 use Rattle.trails.specs.Marks.{Mark, marks_of}
 use Rattle.dump_text.specs.Dump.{dump_of}
-use Rattle.version_export.specs.declared.fault.DumpFault.{DumpFault}
-use Rattle.version_export.specs.declared.fault.DumpFault.TheVariants as faults
+use Rattle.dump_text.specs.declared.grow.TheConstants.{MOST_NODES}
+use Rattle.doc_export.specs.declared.fault.DumpFault.{DumpFault}
+use Rattle.doc_export.specs.declared.fault.DumpFault.TheVariants as faults
 use Rattle.version_rule.specs.Fits.{Fits, HasTree}
 use Rattle.version_rule.specs.Pass.{Pass, opening_pass}
 use Rattle.version_store.specs.Calls.{version_asks}
@@ -23,8 +24,8 @@ use Rattle.doc_export.specs.declared.guest.Through.{Through}
 -- the bytes are the dump of the version with this number and this tree; there are none exactly
 -- where the tree has more nodes than a dump may have
 abbrev pub IsDumpOf : ℕ → DocTree → Option (Vec ℕ Global) → Type 0
-IsDumpOf version t None = 10_000 < count t
-IsDumpOf version t (Some bytes) = (count t ≤ 10_000) × (bytes.items ≡ dump_of version t)
+IsDumpOf version t None = MOST_NODES < count t
+IsDumpOf version t (Some bytes) = (count t ≤ MOST_NODES) × (bytes.items ≡ dump_of version t)
 
 -- By the pass and the trail of the mutator that tells of a version: it is the latest that was seen,
 -- and the anchor named its box. For every list of versions that fits the pass, the tree of that

@@ -1,4 +1,9 @@
 pub mod Dumps
 pub mod Guests
+pub mod Lines
+pub mod Looks
+pub mod Outcome
 pub mod Parts
+pub mod Still
+pub mod Walks
 pub mod Workers

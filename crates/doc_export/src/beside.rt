@@ -8,7 +8,7 @@ ghost use Rattle.std.specs.Thread.{IsSync};
 
 use crate::ending::Ending;
 use crate::guest::{Copied, Guest, Through, take_version};
-use client_history::Documents;
+use client_history::{Documents, LEAST_MINOR};
 use client_run::Limits;
 use client_threads::{Client, run_client};
 use doc_model::Command;
@@ -69,7 +69,7 @@ pub(crate) fn run_with_guest<R: Threads + Wait + Sync, G: Ending + Sync>(
     requires few { length scripts.now ≤ 63 }
     requires short { All (λ script. length script.items ≤ 100_000) scripts.now }
     requires keep { heap.now.shape.setting ≡ limits.keep }
-    requires minor { 4_096 ≤ limits.minor }
+    requires minor { LEAST_MINOR ≤ limits.minor }
     requires ready { AllReady heap.now queue.now limits workers.items }
     requires many { length workers.items ≡ length scripts.now + 1 }
     ensures worked { HaveWorked heap.now limits scripts.now result.0.items result.1 }
@@ -84,7 +84,7 @@ pub(crate) fn run_with_guest<R: Threads + Wait + Sync, G: Ending + Sync>(
     let (through, clients) = join(
         rt,
         move || -> Through
-            requires { (4_096 ≤ limits.minor) × IsWaiting heap.now limits guest.place guest.seat }
+            requires { (LEAST_MINOR ≤ limits.minor) × IsWaiting heap.now limits guest.place guest.seat }
             ensures { IsThrough heap.entry.now limits guest.place result }
         { take_version(alloc, rt, gate, heap, limits, guest) },
         move || -> Vec<Worker<Documents, Client>>

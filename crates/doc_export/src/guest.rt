@@ -7,10 +7,12 @@ ghost use Rattle.version_rule.specs.Pass.{reading};
 ghost use Rattle.version_store.specs.Held.{IsHeld, root_at};
 ghost use Rattle.version_store.specs.Lasts.{IsSameMutator, LastsAcross};
 
+use crate::dumping::{DUMP_PLACES, dump};
 use crate::ending::Ending;
+use crate::fault::DumpFault;
 use crate::waiting::await_end;
 use beside_collector::{come_in, leave};
-use client_history::Documents;
+use client_history::{Documents, LEAST_MINOR};
 use client_run::Limits;
 use client_threads::await_gate;
 use client_trees::{NodeAt, count};
@@ -20,8 +22,11 @@ use mutator_seat::{MutSeat, Mutator};
 use outside::Gate;
 use std::alloc::Global;
 use std::sync::Wait;
-use version_export::{DumpFault, HeldVersion, dump};
-use version_store::{current, tree};
+use version_store::{HeldVersion, current, tree};
+
+/// Places that the guest has at least: for the anchor, a version and its root, `DUMP_PLACES`, and
+/// some to spare. Its mutator has those of a client, 32,768 with `LEAST_MINOR` records.
+const GUEST_PLACES: usize = 20_000;
 
 /// The guest before its turn: the seat of its mutator, and a private heap for the readers of trees,
 /// which stays empty.
@@ -59,7 +64,7 @@ pub(crate) fn take_version<R: Wait, G: Ending>(
     limits: Limits,
     guest: Guest,
 ) -> Through
-    requires minor { 4_096 ≤ limits.minor }
+    requires minor { LEAST_MINOR ≤ limits.minor }
     requires guest { IsWaiting heap.now limits guest.place guest.seat }
     ensures through { IsThrough heap.now limits guest.place result }
 {
@@ -95,7 +100,7 @@ fn copy_latest(
 ) -> Option<Copied>
     requires inside { m.old.seat.me.presence.inside ≡ true }
     requires held { length m.old.seat.me.own.held ≡ 1 }
-    requires room { 20_000 ≤ m.old.seat.me.room }
+    requires room { GUEST_PLACES ≤ m.old.seat.me.room }
     ensures copies { Copies m.old m.new result }
 {
     let v = current(m);
@@ -129,7 +134,7 @@ fn without_dump(version: u64, nodes: u64, fault: DumpFault) -> Option<Copied>
 fn nodes_of(m: &mut Mutator<'_, Documents>, minor: &mut MinorHeap, v: HeldVersion) -> u64
     requires inside { m.old.seat.me.presence.inside ≡ true }
     requires version { IsHeld m.old v }
-    requires room { length m.old.seat.me.own.held + 16_384 ≤ m.old.seat.me.room }
+    requires room { length m.old.seat.me.own.held + DUMP_PLACES ≤ m.old.seat.me.room }
     ensures count { result ≡ count (tree_of (root_at m.old v.place)) }
     ensures pass { m.new.seat.me.pass
         ≡ reading v.number (tree_of (root_at m.old v.place)) m.old.seat.me.pass }

@@ -17,7 +17,7 @@ use crate::ending::Ending;
 use crate::guest::Copied;
 use beside_collector::Doing;
 use cell_heap::Passes;
-use client_history::Documents;
+use client_history::{Documents, LEAST_MINOR};
 use client_run::Options;
 use client_threads::{Client, open_store, take_logs};
 use collector::NoMemory;
@@ -112,7 +112,7 @@ pub(crate) fn run_opened<R: Threads + Wait + Sync, G: Ending + Sync>(
     let run = move || -> (Vec<Worker<Documents, Client>>, Option<Copied>)
         requires { IsSync R.row × IsSync G.row × (length scripts.now ≤ 63)
             × All (λ script. length script.items ≤ 100_000) scripts.now
-            × (at.now.shape.setting ≡ limits.keep) × (4_096 ≤ limits.minor)
+            × (at.now.shape.setting ≡ limits.keep) × (LEAST_MINOR ≤ limits.minor)
             × AllReady at.now hints.now limits workers.items
             × (length workers.items ≡ length scripts.now + 1) }
         ensures { HaveWorked at.entry.now limits scripts.entry.now result.0.items result.1 }

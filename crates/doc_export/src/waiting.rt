@@ -1,7 +1,7 @@
 //! The guest's wait for the end of some script.
 ghost use Rattle.std.specs.Prelude.{◌≡◌, ◌+◌, ◌≤◌, false, true};
 ghost use Rattle.client_threads.specs.Going.{Waits};
-ghost use Rattle.version_export.specs.Looks.{looks};
+ghost use Rattle.doc_export.specs.Looks.{looks};
 ghost use Rattle.version_store.specs.Lasts.{marks};
 
 use crate::ending::Ending;

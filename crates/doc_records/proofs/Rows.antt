@@ -5,10 +5,12 @@ use Rattle.std.proofs.lemmas.List.{append-nil}
 use Rattle.std.proofs.lemmas.Bool.Decides.{nat_tests}
 use Rattle.cell_words.specs.Term.{Term, null, num, five, part, IsFive}
 use Rattle.std.specs.declared.cmp.Ordering.TheVariants.{Less, Equal, Greater}
+use Rattle.doc_tree.specs.declared.tree.TheConstants.Tree.{MOST_CHILDREN}
 use Rattle.doc_tree.specs.Tree.{kid, kid_count, names_of, name_cmp, child, IsRising}
 use Rattle.doc_tree.proofs.Joined.{count_join, names_join}
+use Rattle.kids_avl.specs.declared.bounds.TheConstants.{MOST_LEVELS}
 use Rattle.kids_avl.specs.Entries.{kids_of, height_of, IsBalanced}
-use Rattle.kids_avl.proofs.Heights.{at_most_eleven, left_lower, right_lower}
+use Rattle.kids_avl.proofs.Heights.{at_most_levels, left_lower, right_lower}
 use Rattle.kids_avl.proofs.Lists.{child_less, child_equal, child_greater}
 use Rattle.kids_avl.proofs.Lists.{rising_before, rising_after}
 use Rattle.trails.specs.Asks.{Ask, Shows}
@@ -112,7 +114,8 @@ node_kids null is = refl
 node_kids (num n) is = refl
 node_kids (five a b c d e) is = refl
 
-pub node_few : (t : Term) → IsTreeNode t → kid_count (kids_of (entries_of (part 1 t))) ≤ 256
+pub node_few : (t : Term) → IsTreeNode t → kid_count (kids_of (entries_of (part 1 t)))
+    ≤ MOST_CHILDREN
 node_few t is =
     omega (arith, is.lawful.nodes.here.few, ap kid_count (node_kids t is.node))
 
@@ -126,9 +129,9 @@ balanced (num n) is = absurd is
 balanced (five a b c d e) is =
     (is.left_near, is.right_near, balanced c is.left, balanced d is.right)
 
-pub node_high : (t : Term) → IsTreeNode t → height_of (entries_of (part 1 t)) ≤ 11
+pub node_high : (t : Term) → IsTreeNode t → height_of (entries_of (part 1 t)) ≤ MOST_LEVELS
 node_high t is =
-    at_most_eleven (entries_of (part 1 t)) (balanced (part 1 t) (node_entries t is.node))
+    at_most_levels (entries_of (part 1 t)) (balanced (part 1 t) (node_entries t is.node))
     (node_few t is)
 
 -- the child of an entry, and of a name by its order against the entry's

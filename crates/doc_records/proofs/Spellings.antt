@@ -11,6 +11,7 @@ use Rattle.trails.specs.Marks.{Mark}
 use Rattle.trails.specs.Telling.{Due, Tells, Keeps}
 use Rattle.trails.proofs.Telling.{tells_shows, keeps_begins, keeps_grown}
 use Rattle.trails.proofs.Orders.{shows_on}
+use Rattle.doc_records.specs.declared.bounds.TheConstants.{TEXT_CELLS}
 use Rattle.doc_records.specs.Pool.{Shown, Later, Kept}
 use Rattle.doc_records.specs.Shapes.{IsChain, cells_of, ask_cell, ask_text}
 use Rattle.doc_records.specs.Texts.{IsText, SpellsText, bytes_here, text_of, text_asks}
@@ -42,7 +43,7 @@ node_height (five a b c d e) is = is.height
 pub text_chain : (t : Term) → IsText t → IsChain t
 text_chain t is = chain_spelled t (text_of t) is.spells
 
-pub text_cells : (t : Term) → IsText t → cells_of t ≤ 196
+pub text_cells : (t : Term) → IsText t → cells_of t ≤ TEXT_CELLS
 text_cells t is = grind (arith, nat_tests, is.text, cells_spelled t (text_of t) is.spells)
 
 text_tells : (t : Term) (old new : List Mark) → IsText t → Tells (ask_text t) old new

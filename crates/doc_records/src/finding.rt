@@ -11,6 +11,7 @@ ghost use Rattle.doc_records.specs.Trees.{AreEntries, IsNodeAt, IsTreeNode, entr
 ghost use Rattle.doc_records.specs.Trees.{tree_of};
 ghost use Rattle.doc_records.specs.Words.{head_of};
 
+use crate::bounds::CHILD_PLACES;
 use crate::layout::{ENTRY_CHILD, ENTRY_LEFT, ENTRY_NAME, ENTRY_RIGHT, NODE_ENTRIES};
 use crate::orders::order_name;
 use crate::pool::{Part, RecordPool};
@@ -127,7 +128,7 @@ fn find_under<R: RecordPool>(
 pub fn find_child<R: RecordPool>(records: &mut R, at: R::At, name: &Name) -> Option<R::At>
     requires stands { (R.shown records.old).stands (R.shown records.old).held at }
     requires node { IsTreeNode ((R.shown records.old).term at) }
-    requires places { (R.shown records.old).held + 64 ≤ (R.shown records.old).room }
+    requires places { (R.shown records.old).held + CHILD_PLACES ≤ (R.shown records.old).room }
     ensures child { option_map (λ at. tree_of ((R.shown records.new).term at)) result
         ≡ child_of_name name.now (tree_of ((R.shown records.old).term at)).kids }
     ensures stands { ForSome result (IsNodeAt (R.shown records.new)) }
@@ -136,7 +137,7 @@ pub fn find_child<R: RecordPool>(records: &mut R, at: R::At, name: &Name) -> Opt
         → IsOn R.shared (R.shown records.old) places at
         → ForSome result (IsOn R.shared (R.shown records.new) places) }
     ensures later { Later (R.shown records.old) (R.shown records.new) }
-    ensures held { (R.shown records.new).held ≤ (R.shown records.old).held + 64 }
+    ensures held { (R.shown records.new).held ≤ (R.shown records.old).held + CHILD_PLACES }
     ensures records { (R.shown records.new).records ≡ (R.shown records.old).records }
 {
     let top = read_part(records, at, NODE_ENTRIES);
@@ -148,7 +149,7 @@ pub fn find_child<R: RecordPool>(records: &mut R, at: R::At, name: &Name) -> Opt
 pub fn child<R: RecordPool>(records: &mut R, at: R::At, name: &Name) -> Option<R::At>
     requires stands { (R.shown records.old).stands (R.shown records.old).held at }
     requires node { IsTreeNode ((R.shown records.old).term at) }
-    requires places { (R.shown records.old).held + 64 ≤ (R.shown records.old).room }
+    requires places { (R.shown records.old).held + CHILD_PLACES ≤ (R.shown records.old).room }
     ensures child { option_map (λ at. tree_of ((R.shown records.new).term at)) result
         ≡ child_of_name name.now (tree_of ((R.shown records.old).term at)).kids }
     ensures stands { ForSome result (IsNodeAt (R.shown records.new)) }

@@ -7,10 +7,11 @@
 //! places back; what stood before stands unchanged; and of shared nodes the trail shows the reads.
 //! Edits along a path are left to the layer above.
 //!
-//! Reading order: specs/Words, Texts, Trees, Pool; then `layout`, `pool`, `reads`, `words`,
-//! `texts`, `nodes`, `orders`, `finding`, `listing`, `writes`.
+//! Reading order: specs/Words, Texts, Trees, Pool; then `bounds`, `layout`, `pool`, `reads`,
+//! `words`, `texts`, `nodes`, `orders`, `finding`, `listing`, `writes`.
 #![tactic(auto)]
 
+mod bounds;
 mod finding;
 mod layout;
 mod listing;
@@ -22,6 +23,7 @@ mod texts;
 mod words;
 mod writes;
 
+pub use crate::bounds::{CHILD_PLACES, NAMES_PLACES, TEXT_CELLS, TEXT_PLACES};
 pub use crate::finding::{child, entry_child, find_child, order_entry};
 pub use crate::layout::{
     ENTRY_CHILD, ENTRY_HEIGHT, ENTRY_LEFT, ENTRY_NAME, ENTRY_RIGHT, NODE_COUNT, NODE_ENTRIES,

@@ -10,6 +10,7 @@ ghost use Rattle.doc_records.specs.Shapes.{ask_names, ask_text};
 ghost use Rattle.doc_records.specs.Texts.{name_asks, text_of};
 ghost use Rattle.doc_records.specs.Trees.{AreEntries, IsNode, IsTreeNode, entries_of, tree_of};
 
+use crate::bounds::NAMES_PLACES;
 use crate::layout::{ENTRY_LEFT, ENTRY_NAME, ENTRY_RIGHT, NODE_ENTRIES};
 use crate::pool::{Part, RecordPool};
 use crate::reads::read_part;
@@ -80,7 +81,7 @@ fn push_names<R: RecordPool>(
 fn read_names<R: RecordPool>(alloc: Global, records: &mut R, at: R::At) -> Result<Names, NoMemory>
     requires stands { (R.shown records.old).stands (R.shown records.old).held at }
     requires node { IsTreeNode ((R.shown records.old).term at) }
-    requires places { (R.shown records.old).held + 1538 ≤ (R.shown records.old).room }
+    requires places { (R.shown records.old).held + NAMES_PLACES ≤ (R.shown records.old).room }
     ensures names { IfOk result
         (λ names. names ≡ names_of (tree_of ((R.shown records.old).term at)).kids) }
     ensures later { Later (R.shown records.old) (R.shown records.new) }
@@ -100,7 +101,7 @@ fn read_names<R: RecordPool>(alloc: Global, records: &mut R, at: R::At) -> Resul
 pub fn names<R: RecordPool>(alloc: Global, records: &mut R, at: R::At) -> Result<Names, NoMemory>
     requires stands { (R.shown records.old).stands (R.shown records.old).held at }
     requires node { IsTreeNode ((R.shown records.old).term at) }
-    requires places { (R.shown records.old).held + 1538 ≤ (R.shown records.old).room }
+    requires places { (R.shown records.old).held + NAMES_PLACES ≤ (R.shown records.old).room }
     ensures names { IfOk result
         (λ names. names ≡ names_of (tree_of ((R.shown records.old).term at)).kids) }
     ensures later { Later (R.shown records.old) (R.shown records.new) }

@@ -11,6 +11,7 @@ ghost use Rattle.doc_records.specs.Texts.{bytes_here, text_asks};
 ghost use Rattle.doc_tree.specs.Words.{is_text};
 ghost use Rattle.doc_records.specs.Trees.{IsNode, IsTreeNode, Spells, tree_of};
 
+use crate::bounds::{TEXT_CELLS, TEXT_PLACES};
 use crate::layout::{NODE_COUNT, NODE_HEIGHT, NODE_TEXT};
 use crate::pool::{Part, RecordPool};
 use crate::reads::{read_number, read_part};
@@ -39,10 +40,10 @@ fn short_text(alloc: Global, cell: Cell) -> Result<Text, NoMemory>
 fn read_text<R: RecordPool>(alloc: Global, records: &mut R, at: R::At) -> Result<Text, NoMemory>
     requires stands { (R.shown records.old).stands (R.shown records.old).held at }
     requires node { IsNode ((R.shown records.old).term at) }
-    requires places { (R.shown records.old).held + 197 ≤ (R.shown records.old).room }
+    requires places { (R.shown records.old).held + TEXT_PLACES ≤ (R.shown records.old).room }
     ensures text { IfOk result (λ text. text ≡ (tree_of ((R.shown records.old).term at)).text) }
     ensures later { Later (R.shown records.old) (R.shown records.new) }
-    ensures held { (R.shown records.new).held ≤ (R.shown records.old).held + 196 }
+    ensures held { (R.shown records.new).held ≤ (R.shown records.old).held + TEXT_CELLS }
     ensures records { (R.shown records.new).records ≡ (R.shown records.old).records }
     ensures told { OnOk result (R.shared at ≡ true
         → Tells (ask_text (part 0 ((R.shown records.old).term at)))
@@ -69,7 +70,7 @@ fn read_text<R: RecordPool>(alloc: Global, records: &mut R, at: R::At) -> Result
 pub fn text_of<R: RecordPool>(alloc: Global, records: &mut R, at: R::At) -> Result<Text, NoMemory>
     requires stands { (R.shown records.old).stands (R.shown records.old).held at }
     requires node { IsNode ((R.shown records.old).term at) }
-    requires places { (R.shown records.old).held + 197 ≤ (R.shown records.old).room }
+    requires places { (R.shown records.old).held + TEXT_PLACES ≤ (R.shown records.old).room }
     ensures text { IfOk result (λ text. text ≡ (tree_of ((R.shown records.old).term at)).text) }
     ensures later { Later (R.shown records.old) (R.shown records.new) }
     ensures held { (R.shown records.new).held ≡ (R.shown records.old).held }

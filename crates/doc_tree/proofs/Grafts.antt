@@ -12,6 +12,7 @@ use Rattle.std.proofs.lemmas.Bool.Decides.{nat_tests}
 use Rattle.std.proofs.lemmas.Cmp.{nat_list_cmp_total, tied_itself}
 use Rattle.doc_tree.specs.declared.edit.EditFault.{EditFault}
 use Rattle.doc_tree.specs.declared.edit.EditFault.TheVariants as fault
+use Rattle.doc_tree.specs.declared.tree.TheConstants.Tree.{MOST_CHILDREN}
 use Rattle.doc_tree.specs.Edits.{attach, begun, delete, edit_along, edited, found, placed}
 use Rattle.doc_tree.specs.Edits.{start, with_child, with_text, within_limits}
 use Rattle.doc_tree.specs.Grafts.{Agree, AttachIsAlong, DeleteIsAlong, NodeAgrees, SetTextIsAlong}
@@ -70,7 +71,7 @@ begins_same n r s was other (new none room is) (new free more made) same = new f
 begins_start : (n : List ℕ) (t was : DocTree) → Begins n t was → start n t ≡ Ok was
 begins_start n t was (there is) = ap (begun t.kids) is
 begins_start n t was (new none room is) =
-    let few : nat_lt (kid_count t.kids) 256 ≡ true = grind (arith, nat_tests, room) in
+    let few : nat_lt (kid_count t.kids) MOST_CHILDREN ≡ true = grind (arith, nat_tests, room) in
     ap (begun t.kids) none
     ∙ ap (λ b. cond b (Ok empty) (Err fault.Many)) few
     ∙ ap (λ (d : DocTree). Ok d) is

@@ -15,6 +15,7 @@ use Rattle.std.proofs.lemmas.Bool.Decides.{nat_tests}
 use Rattle.std.specs.declared.cmp.Ordering.TheVariants.{Less, Equal, Greater}
 use Rattle.doc_tree.specs.declared.edit.EditFault.{EditFault}
 use Rattle.doc_tree.specs.declared.edit.EditFault.TheVariants as fault
+use Rattle.doc_tree.specs.declared.tree.TheConstants.Tree.{MOST_CHILDREN}
 use Rattle.doc_tree.specs.Edits.{Gives, attach, begun, delete, delete_child, deleted, edit_along}
 use Rattle.doc_tree.specs.Edits.{edited, placed, set_text, start, with_child, with_text}
 use Rattle.doc_tree.specs.Edits.{within_limits, without_child}
@@ -68,7 +69,8 @@ ordered_delete n (kid m text inside rest) all =
       | Greater ↦ (all.0, (all.1.0, ordered_delete n rest all.1.1))
     ]
 
-pub ordered_with : (n : List ℕ) (d t : DocTree) → (child n t.kids ≡ None → kid_count t.kids < 256)
+pub ordered_with : (n : List ℕ) (d t : DocTree)
+    → (child n t.kids ≡ None → kid_count t.kids < MOST_CHILDREN)
     → IsOrdered t → IsOrdered d → IsOrdered (with_child n d t)
 ordered_with n d t room was fresh = record {
   here = record {
@@ -93,7 +95,7 @@ ordered_begins n t was (there is) all = ordered_child n t.kids was all.below is
 ordered_begins n t was (new none room is) all = subst IsOrdered is ordered_empty
 
 pub room_begins : (n : List ℕ) (t was : DocTree) → Begins n t was → child n t.kids ≡ None
-    → kid_count t.kids < 256
+    → kid_count t.kids < MOST_CHILDREN
 room_begins n t was (there is) none = cc
 room_begins n t was (new is room made) none = room
 
@@ -123,7 +125,8 @@ ordered_deleted (n ∷ m ∷ path) t u all h =
     let p = deletes n m path t u h in
     let inside = ordered_deleted (m ∷ path) p.was p.becomes
     (ordered_child n t.kids p.was all.below p.there) p.made in
-    let room : child n t.kids ≡ None → kid_count t.kids < 256 = λ none. let some = p.there in cc in
+    let room : child n t.kids ≡ None → kid_count t.kids < MOST_CHILDREN =
+    λ none. let some = p.there in cc in
     subst IsOrdered p.is (ordered_with n p.becomes t room all inside)
 
 -- how high an edit makes a tree
@@ -287,8 +290,8 @@ low_edit t low deep =
 deep_begun : (kids : Kids) (o : Option DocTree) → begun kids o ≢ Err fault.Deep
 deep_begun kids (Some d) h = cc
 deep_begun kids None h =
-    elim (nat_lt (kid_count kids) 256) as (λ b. cond b (Ok empty) (Err fault.Many) ≡ Err fault.Deep
-    → ⊥) [
+    elim (nat_lt (kid_count kids) MOST_CHILDREN)
+    as (λ b. cond b (Ok empty) (Err fault.Many) ≡ Err fault.Deep → ⊥) [
       | true ↦ λ h. cc
       | false ↦ λ h. cc
     ] h

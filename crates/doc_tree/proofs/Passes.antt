@@ -7,6 +7,7 @@ use Rattle.std.proofs.lemmas.Bool.Decides.{nat_tests}
 use Rattle.std.proofs.Common.{arith}
 use Rattle.doc_tree.specs.declared.edit.EditFault.{EditFault}
 use Rattle.doc_tree.specs.declared.edit.EditFault.TheVariants as fault
+use Rattle.doc_tree.specs.declared.tree.TheConstants.Tree.{MOST_CHILDREN}
 use Rattle.doc_tree.specs.Tree.{DocTree, empty, kid_count, child}
 use Rattle.doc_tree.specs.Edits.{begun, delete, edit_along, edited, found, placed, start}
 use Rattle.doc_tree.specs.Edits.{with_child}
@@ -14,7 +15,7 @@ use Rattle.doc_tree.specs.Edits.{with_child}
 -- the child that an edit goes on in stands there, or is a new one for which there is room
 pub data Begins (n : List ℕ) (t was : DocTree) : Type 0 where
   there : child n t.kids ≡ Some was → Begins n t was
-  new : child n t.kids ≡ None → kid_count t.kids < 256 → empty ≡ was → Begins n t was
+  new : child n t.kids ≡ None → kid_count t.kids < MOST_CHILDREN → empty ≡ was → Begins n t was
 
 pub record Passes (edit : DocTree → Result DocTree EditFault) (n : List ℕ) (t u : DocTree) :
     Type 0 where
@@ -35,7 +36,8 @@ pub record Deletes (edit : DocTree → Result DocTree EditFault) (n : List ℕ) 
 begins_new : (n : List ℕ) (t was : DocTree) → child n t.kids ≡ None → begun t.kids None ≡ Ok was
     → Begins n t was
 begins_new n t was none h =
-    elim (nat_lt (kid_count t.kids) 256) as (λ b. nat_lt (kid_count t.kids) 256 ≡ b
+    elim (nat_lt (kid_count t.kids) MOST_CHILDREN)
+    as (λ b. nat_lt (kid_count t.kids) MOST_CHILDREN ≡ b
     → cond b (Ok empty) (Err fault.Many) ≡ Ok was → Begins n t was) [
       | true ↦ λ room h. new none (grind (arith, nat_tests)) cc
       | false ↦ λ room h. cc

@@ -3,6 +3,7 @@ use Rattle.std.proofs.Common.{◌≡◌, ℕ, ◌+◌, ◌<◌, ◌≤◌, List,
 use Rattle.std.specs.declared.cmp.Ordering.TheVariants.{Less, Equal, Greater}
 use Rattle.std.specs.Ordering.{ordering_reverse}
 use Rattle.std.proofs.lemmas.Cmp.{nat_list_cmp_total}
+use Rattle.doc_tree.specs.declared.tree.TheConstants.Tree.{MOST_CHILDREN}
 use Rattle.doc_tree.specs.Edits.{delete_child}
 use Rattle.doc_tree.specs.Tree.{DocTree, Kids, no_kids, kid, kid_count, name_cmp, by_order, child}
 use Rattle.doc_tree.specs.Tree.{put_child, IsAbove, IsRising}
@@ -90,11 +91,11 @@ count_put_over n d was (kid k text inside rest) h =
     ] h
 
 pub room_put : (n : List ℕ) (d : DocTree) (kids : Kids)
-    → (child n kids ≡ None → kid_count kids < 256) → kid_count kids ≤ 256
-    → kid_count (put_child n d kids) ≤ 256
+    → (child n kids ≡ None → kid_count kids < MOST_CHILDREN) → kid_count kids ≤ MOST_CHILDREN
+    → kid_count (put_child n d kids) ≤ MOST_CHILDREN
 room_put n d kids room few =
-    elim (child n kids) as (λ o. child n kids ≡ o → (o ≡ None → kid_count kids < 256)
-    → kid_count (put_child n d kids) ≤ 256) [
+    elim (child n kids) as (λ o. child n kids ≡ o → (o ≡ None → kid_count kids < MOST_CHILDREN)
+    → kid_count (put_child n d kids) ≤ MOST_CHILDREN) [
       | None ↦ λ e free. omega (arith, free refl, count_put n d kids)
       | Some was ↦ λ e free. omega (arith, few, count_put_over n d was kids e)
     ] refl room

@@ -7,6 +7,7 @@ use Rattle.std.specs.Prelude.{◌≡◌, ℕ, nat_lt, List, [], ◌∷◌, Optio
 use Rattle.std.specs.Prelude.{if◌then◌else◌}
 use Rattle.doc_tree.specs.declared.edit.EditFault.{EditFault}
 use Rattle.doc_tree.specs.declared.edit.EditFault.TheVariants as fault
+use Rattle.doc_tree.specs.declared.tree.TheConstants.Tree.{MOST_CHILDREN}
 use Rattle.doc_tree.specs.Tree.{DocTree, Kids, no_kids, kid, empty, kid_count, name_cmp, by_order}
 use Rattle.doc_tree.specs.Tree.{child, put_child, count, height}
 
@@ -20,7 +21,7 @@ with_text text t = record { text = text; kids = t.kids }
 -- the child that an edit goes on in: a new one where there is none, and where there is room
 abbrev pub begun : Kids → Option DocTree → Result DocTree EditFault
 begun kids (Some d) = Ok d
-begun kids None = if nat_lt (kid_count kids) 256 then Ok empty else Err fault.Many
+begun kids None = if nat_lt (kid_count kids) MOST_CHILDREN then Ok empty else Err fault.Many
 
 abbrev pub start : List ℕ → DocTree → Result DocTree EditFault
 start n t = begun t.kids (child n t.kids)

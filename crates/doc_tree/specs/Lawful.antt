@@ -1,17 +1,19 @@
 -- Lawful trees: what every tree of a document is, and what an edit that is not refused keeps.
--- At every node the names rise and there are at most 256 children; the whole tree is at most 8 high
--- and has at most 1,000,000,000 nodes. All four then hold of the tree of every node in it.
+-- At every node the names rise and there are at most `MOST_CHILDREN` children; the whole tree is at
+-- most 8 high and has at most 1,000,000,000 nodes. All four then hold of the tree of every node in
+-- it.
 -- Source: this project's.
 use Rattle.std.specs.Prelude.{◌≡◌, ◌≢◌, ℕ, ◌≤◌, List, Some, Ok, Err, length}
 use Rattle.doc_tree.specs.declared.edit.EditFault.TheVariants as fault
+use Rattle.doc_tree.specs.declared.tree.TheConstants.Tree.{MOST_CHILDREN}
 use Rattle.doc_tree.specs.Tree.{DocTree, Kids, no_kids, kid, kid_count, count, height, node}
 use Rattle.doc_tree.specs.Tree.{IsRising}
 use Rattle.doc_tree.specs.Edits.{set_text, attach, delete}
 
--- the children of one node: their names rise, and they are at most 256
+-- the children of one node: their names rise, and they are at most `MOST_CHILDREN`
 pub record IsOrderly (kids : Kids) : Type 0 where
   pub rising : IsRising kids
-  pub few : kid_count kids ≤ 256
+  pub few : kid_count kids ≤ MOST_CHILDREN
 
 -- the children of every node below these
 abbrev pub AreOrderly : Kids → Type 0

@@ -161,7 +161,7 @@ pub(crate) fn sizes(chunks: &[Rc<Chunk>]) -> (u64, u32)
 /// How many children there are.
 #[tactic(auto, using(crate::proofs::Joined::count_join, crate::proofs::Places::count_kids))]
 pub(crate) fn count(chunks: &[Rc<Chunk>]) -> usize
-    requires { kid_count (kids_of chunks.now) ≤ 256 }
+    requires { kid_count (kids_of chunks.now) ≤ Tree.MOST_CHILDREN }
     ensures { result ≡ kid_count (kids_of chunks.now) }
 {
     let mut count = 0;

@@ -250,7 +250,7 @@ impl Tree {
     }
 
     fn is_full(&self) -> bool
-        ensures { IsTrue result ↔ (256 ≤ kid_count self.now.kids) }
+        ensures { IsTrue result ↔ (Tree.MOST_CHILDREN ≤ kid_count self.now.kids) }
     {
         count(&self.kids) >= Tree::MOST_CHILDREN
     }
@@ -282,9 +282,9 @@ fn put_kid(
 ) -> Result<Tree, NoMemory>
     requires chunks { AreChunks kids.now.items }
     requires rising { IsRising (kids_of kids.now.items) }
-    requires few { kid_count (kids_of kids.now.items) ≤ 256 }
+    requires few { kid_count (kids_of kids.now.items) ≤ Tree.MOST_CHILDREN }
     requires room { child name.now (kids_of kids.now.items) ≡ None
-        → kid_count (kids_of kids.now.items) < 256 }
+        → kid_count (kids_of kids.now.items) < Tree.MOST_CHILDREN }
     requires place { IsPlace name.now kids.now.items place }
     ensures { IfOk result (λ whole. whole
         ≡ record { text = text.now; kids = put_child name.now tree (kids_of kids.now.items) }) }
@@ -303,7 +303,7 @@ fn put_kid(
 fn made(text: Text, kids: Vec<Rc<Chunk>>) -> Tree
     requires chunks { AreChunks kids.items }
     requires rising { IsRising (kids_of kids.items) }
-    requires few { kid_count (kids_of kids.items) ≤ 256 }
+    requires few { kid_count (kids_of kids.items) ≤ Tree.MOST_CHILDREN }
     ensures { result ≡ record { text = text; kids = kids_of kids.items } }
 {
     let (nodes, levels) = sizes(&kids);

@@ -12,12 +12,14 @@ use Rattle.std.proofs.Math.Bool.{or-false}
 use Rattle.std.proofs.lemmas.Bool.{and_from, and_parts, or_left, or_right}
 use Rattle.std.proofs.lemmas.Bool.Decides.{nat_tests}
 use Rattle.std.proofs.lemmas.List.{length-append}
+use Rattle.doc_tree.specs.declared.tree.TheConstants.Tree.{MOST_CHILDREN}
 use Rattle.doc_tree.specs.Lawful.{AreOrderly, IsLawful, IsOrdered}
 use Rattle.doc_tree.specs.Tree.{DocTree, Kids, no_kids, kid, name_cmp, by_order, child}
 use Rattle.doc_tree.specs.Tree.{count, height_below, IsAbove, IsRising}
 use Rattle.doc_tree.specs.Words.{are_names, is_name, is_text}
 use Rattle.doc_tree.proofs.Orderly.{ordered_child}
 use Rattle.doc_tree.proofs.Rising.{above_later}
+use Rattle.dump_text.specs.declared.grow.TheConstants.{MOST_NODES}
 use Rattle.dump_text.specs.Laws.{has_words}
 use Rattle.dump_text.specs.Listing.{Listed, listed, listed_below, root_of, under}
 use Rattle.dump_text.specs.Order.{Path, comes_after, has_parent, is_child}
@@ -236,7 +238,8 @@ siblings_of_kids n k path (kid m text inside rest) rising =
     siblings_at (name_cmp n m) n m k text inside rest path refl rising.0
     (siblings_of_kids n k path rest rising.1)
 
-pub siblings_few : (path : Path) (t : DocTree) → IsOrdered t → siblings (listed t) path ≤ 256
+pub siblings_few : (path : Path) (t : DocTree) → IsOrdered t
+    → siblings (listed t) path ≤ MOST_CHILDREN
 siblings_few [] t ordered = omega (arith, siblings_none (listed t))
 siblings_few (n ∷ []) t ordered =
     let few = ordered.here.few in
@@ -246,7 +249,7 @@ siblings_few (n ∷ k ∷ path) t ordered =
     ∙ siblings_of_kids n k path t.kids ordered.here.rising in
     elim (child n t.kids) as (λ c. child n t.kids ≡ c
     → siblings (listed t) (n ∷ k ∷ path) ≡ siblings_in c (k ∷ path)
-    → siblings (listed t) (n ∷ k ∷ path) ≤ 256) [
+    → siblings (listed t) (n ∷ k ∷ path) ≤ MOST_CHILDREN) [
       | None ↦ λ e h. omega (arith, h)
       | Some d ↦ λ e h.
           omega (arith, h, siblings_few (k ∷ path) d (ordered_child n t.kids d ordered.below e))
@@ -263,7 +266,8 @@ own_sibling last [] after = let no = sym (after_none last) ∙ after in cc
 own_sibling last (n ∷ path) after = self_sibling n path
 
 room_for : (nodes more : List Listed) (node : Listed) → is_sibling node.path node.path ≡ true
-    → siblings (nodes ++ node ∷ more) node.path ≤ 256 → siblings nodes node.path < 256
+    → siblings (nodes ++ node ∷ more) node.path ≤ MOST_CHILDREN
+    → siblings nodes node.path < MOST_CHILDREN
 room_for nodes more node own few =
     let p : Listed → Bool = λ x. is_sibling node.path x.path in
     let one : ◌≡◌ {A = ℕ} (cond (is_sibling node.path node.path) 1 0) 1 =
@@ -277,15 +281,15 @@ room_for nodes more node own few =
     )
 
 next_from : (more nodes whole : List Listed) (last : Path) → whole ≡ nodes ++ more
-    → length whole ≤ 10_000 → ((path : Path) → siblings whole path ≤ 256)
+    → length whole ≤ MOST_NODES → ((path : Path) → siblings whole path ≤ MOST_CHILDREN)
     → last ≡ last_path nodes → Rises last more → HaveParents nodes more → AreNext nodes more
 next_from [] nodes whole last is few all at rises parents = tt
 next_from (node ∷ more) nodes whole last is few all at rises parents =
     let after = ap (λ (l : Path). comes_after l node.path) (sym at) ∙ rises.0 in
     let own = own_sibling last node.path rises.0 in
     let room = room_for nodes more node own
-    (subst (λ (ns : List Listed). siblings ns node.path ≤ 256) is (all node.path)) in
-    let short : length nodes < 10_000 =
+    (subst (λ (ns : List Listed). siblings ns node.path ≤ MOST_CHILDREN) is (all node.path)) in
+    let short : length nodes < MOST_NODES =
     omega (arith, few, ap length is, length-append nodes (node ∷ more)) in (
       placed_as nodes node true false false
           (and_from (comes_after (last_path nodes) node.path) (has_parent nodes node.path) after
@@ -296,7 +300,7 @@ next_from (node ∷ more) nodes whole last is few all at rises parents =
           (sym (last-append nodes node [])) rises.1 parents.1,
     )
 
-pub next_of_tree : (t : DocTree) → IsLawful t → count t ≤ 10_000
+pub next_of_tree : (t : DocTree) → IsLawful t → count t ≤ MOST_NODES
     → AreNext (root_of t.text ∷ []) (listed_below t.kids)
 next_of_tree t lawful few =
     next_from (listed_below t.kids) (root_of t.text ∷ []) (listed t) [] refl

@@ -6,6 +6,7 @@ use Rattle.std.specs.Prelude.{nat_lt}
 use Rattle.std.specs.declared.cmp.Ordering.TheVariants.{Less, Equal, Greater}
 use Rattle.std.proofs.lemmas.Bool.Decides.{nat_tests}
 use Rattle.std.proofs.lemmas.List.{map-append}
+use Rattle.doc_tree.specs.declared.tree.TheConstants.Tree.{MOST_CHILDREN}
 use Rattle.doc_tree.specs.declared.edit.EditFault.TheVariants as fault
 use Rattle.doc_tree.specs.Edits.{begun, edit_along, edited, placed, start, with_child, with_text}
 use Rattle.doc_tree.specs.Lawful.{IsOrdered}
@@ -29,8 +30,9 @@ node_at path text = record { path = path; text = text }
 pub data Growing (t : DocTree) (path : Path) (text : List ℕ) : Type 0 where
   grew : (u : DocTree) → edit_along (with_text text) path t ≡ Ok u
       → listed u ≡ listed t ++ record { path = path; text = text } ∷ []
-      → siblings (listed t) path < 256 → Growing t path text
-  full : edit_along (with_text text) path t ≡ Err fault.Many → 256 ≤ siblings (listed t) path
+      → siblings (listed t) path < MOST_CHILDREN → Growing t path text
+  full : edit_along (with_text text) path t ≡ Err fault.Many
+      → MOST_CHILDREN ≤ siblings (listed t) path
       → Growing t path text
 
 -- next to the last child
@@ -59,17 +61,17 @@ grow_beside n text root kids below =
     let made = ap (λ r. placed n t (edited (edit_along (with_text text) []) r)) begins in
     let number : siblings (listed t) (n ∷ []) ≡ kid_count kids =
     siblings_below (n ∷ []) root (listed_below kids) ∙ siblings_root n kids in
-    elim (nat_lt (kid_count kids) 256) as (λ b. nat_lt (kid_count kids) 256 ≡ b
+    elim (nat_lt (kid_count kids) MOST_CHILDREN) as (λ b. nat_lt (kid_count kids) MOST_CHILDREN ≡ b
     → edit_along (with_text text) (n ∷ []) t
     ≡ placed n t (edited (edit_along (with_text text) []) (cond b (Ok empty) (Err fault.Many)))
     → Growing t (n ∷ []) text) [
       | true ↦ λ room is. (
-          let less : kid_count kids < 256 = grind (arith, nat_tests) in
+          let less : kid_count kids < MOST_CHILDREN = grind (arith, nat_tests) in
           grew (with_child n one t) is (listed_beside n text root kids below)
           (omega (arith, less, number))
           )
       | false ↦ λ room is. (
-          let more : 256 ≤ kid_count kids = grind (arith, nat_tests) in
+          let more : MOST_CHILDREN ≤ kid_count kids = grind (arith, nat_tests) in
           full is (omega (arith, more, number))
           )
     ] refl made

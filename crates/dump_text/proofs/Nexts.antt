@@ -5,11 +5,13 @@ use Rattle.std.proofs.Common.{ap, subst, ◌∙◌, arith}
 use Rattle.std.specs.Prelude.{nat_le, nat_lt}
 use Rattle.std.proofs.lemmas.Bool.Decides.{nat_tests}
 use Rattle.std.proofs.lemmas.List.{length-append}
+use Rattle.doc_tree.specs.declared.tree.TheConstants.Tree.{MOST_CHILDREN}
 use Rattle.doc_tree.specs.declared.edit.EditFault.{EditFault}
 use Rattle.doc_tree.specs.declared.edit.EditFault.TheVariants as fault
 use Rattle.doc_tree.specs.Edits.{Gives, edit_along, edited, set_text, with_text, within_limits}
 use Rattle.doc_tree.specs.Lawful.{IsLawful}
 use Rattle.doc_tree.specs.Tree.{DocTree, count, height}
+use Rattle.dump_text.specs.declared.grow.TheConstants.{MOST_NODES}
 use Rattle.dump_text.specs.Answers.{Gives as GivesLine, Grows, IsGrown, Turns, refused}
 use Rattle.dump_text.specs.Contents.{placed, turn_of}
 use Rattle.dump_text.specs.Line.{line_of}
@@ -33,12 +35,14 @@ placed_by next many big nodes node =
     (cond many (Err Many) (cond big (Err Big) (Ok (Some (nodes ++ node ∷ [])))))
 
 pub placed_as : (nodes : List Listed) (node : Listed) (next many big : Bool)
-    → follows nodes node.path ≡ next → nat_le 256 (siblings nodes node.path) ≡ many
-    → nat_le 10_000 (length nodes) ≡ big → placed nodes node ≡ placed_by next many big nodes node
+    → follows nodes node.path ≡ next → nat_le MOST_CHILDREN (siblings nodes node.path) ≡ many
+    → nat_le MOST_NODES (length nodes) ≡ big
+    → placed nodes node ≡ placed_by next many big nodes node
 placed_as nodes node next many big first second third =
-    ap (λ b. placed_by b (nat_le 256 (siblings nodes node.path)) (nat_le 10_000 (length nodes))
+    ap (λ b. placed_by b (nat_le MOST_CHILDREN (siblings nodes node.path))
+    (nat_le MOST_NODES (length nodes))
     nodes node) first
-    ∙ ap (λ b. placed_by next b (nat_le 10_000 (length nodes)) nodes node) second
+    ∙ ap (λ b. placed_by next b (nat_le MOST_NODES (length nodes)) nodes node) second
     ∙ ap (λ b. placed_by next many b nodes node) third
 
 pub next_is : (last path : Path) (t : DocTree) → IsGrown last t
@@ -54,7 +58,7 @@ pub no_order : (last path : Path) (text : List ℕ) (t : DocTree) → IsGrown la
     → placed (listed t) (record { path = path; text = text }) ≡ Err NoOrder
 no_order last path text t grown not_next =
     placed_as (listed t) (record { path = path; text = text }) false
-    (nat_le 256 (siblings (listed t) path)) (nat_le 10_000 (length (listed t)))
+    (nat_le MOST_CHILDREN (siblings (listed t) path)) (nat_le MOST_NODES (length (listed t)))
     (next_is last path t grown ∙ not_next) refl refl
 
 growing : (last path : Path) (text : List ℕ) (t : DocTree) → IsGrown last t
@@ -63,27 +67,27 @@ growing last path text t grown next =
     grow path text t.text t.kids grown.lawful.nodes
     (ap (λ (l : Path). is_next l path) (sym (last_listed t.text t.kids) ∙ sym grown.last) ∙ next)
 
-pub low_ten : (n : ℕ) → nat_le 10_000 n ≡ false → n < 10_000
+pub low_ten : (n : ℕ) → nat_le MOST_NODES n ≡ false → n < MOST_NODES
 low_ten n h = grind (arith, nat_tests)
 
-high_ten : (n : ℕ) → 10_000 ≤ n → nat_le 10_000 n ≡ true
+high_ten : (n : ℕ) → MOST_NODES ≤ n → nat_le MOST_NODES n ≡ true
 high_ten n h = grind (arith, nat_tests)
 
-pub low_children : (n : ℕ) → n < 256 → nat_le 256 n ≡ false
+pub low_children : (n : ℕ) → n < MOST_CHILDREN → nat_le MOST_CHILDREN n ≡ false
 low_children n h = grind (arith, nat_tests)
 
-high_children : (n : ℕ) → 256 ≤ n → nat_le 256 n ≡ true
+high_children : (n : ℕ) → MOST_CHILDREN ≤ n → nat_le MOST_CHILDREN n ≡ true
 high_children n h = grind (arith, nat_tests)
 
-pub below_ten : (n : ℕ) → n < 10_000 → nat_le 10_000 n ≡ false
+pub below_ten : (n : ℕ) → n < MOST_NODES → nat_le MOST_NODES n ≡ false
 below_ten n h = grind (arith, nat_tests)
 
 many_is : (last path : Path) (text : List ℕ) (t : DocTree) → IsGrown last t
-    → is_next last path ≡ true → 256 ≤ siblings (listed t) path
+    → is_next last path ≡ true → MOST_CHILDREN ≤ siblings (listed t) path
     → placed (listed t) (record { path = path; text = text }) ≡ Err Many
 many_is last path text t grown next more =
     placed_as (listed t) (record { path = path; text = text }) true true
-    (nat_le 10_000 (length (listed t))) (next_is last path t grown ∙ next)
+    (nat_le MOST_NODES (length (listed t))) (next_is last path t grown ∙ next)
     (high_children (siblings (listed t) path) more) refl
 
 -- the limits on a whole tree that is far from them
@@ -175,7 +179,7 @@ within_ok u g is =
     ] is
 
 pub big_is : (last path : Path) (text : List ℕ) (t g : DocTree) → IsGrown last t
-    → is_next last path ≡ true → set_text path text t ≡ Ok g → 10_000 ≤ count t
+    → is_next last path ≡ true → set_text path text t ≡ Ok g → MOST_NODES ≤ count t
     → placed (listed t) (record { path = path; text = text }) ≡ Err Big
 big_is last path text t g grown next is large =
     elim (growing last path text t grown next) [
@@ -192,10 +196,10 @@ big_is last path text t g grown next is large =
 abbrev IsMore : Path → List ℕ → DocTree → DocTree → Type 0
 IsMore path text t g =
     (placed (listed t) (record { path = path; text = text }) ≡ Ok (Some (listed g)))
-    × (count g ≤ 10_000) × (path ≡ last_path (listed g))
+    × (count g ≤ MOST_NODES) × (path ≡ last_path (listed g))
 
 more_is : (last path : Path) (text : List ℕ) (t g : DocTree) → IsGrown last t
-    → is_next last path ≡ true → siblings (listed t) path < 256 → count t < 10_000
+    → is_next last path ≡ true → siblings (listed t) path < MOST_CHILDREN → count t < MOST_NODES
     → listed g ≡ listed t ++ record { path = path; text = text } ∷ [] → IsMore path text t g
 more_is last path text t g grown next room few list =
     let node : Listed = record { path = path; text = text } in (
@@ -208,7 +212,7 @@ more_is last path text t g grown next room few list =
     )
 
 pub grows : (last path : Path) (text : List ℕ) (t g : DocTree) → IsGrown last t
-    → is_next last path ≡ true → set_text path text t ≡ Ok g → count t < 10_000 → IsLawful g
+    → is_next last path ≡ true → set_text path text t ≡ Ok g → count t < MOST_NODES → IsLawful g
     → (placed (listed t) (record { path = path; text = text }) ≡ Ok (Some (listed g)))
     × IsGrown path g
 grows last path text t g grown next is few lawful =

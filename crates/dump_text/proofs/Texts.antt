@@ -9,9 +9,11 @@ use Rattle.std.proofs.lemmas.Bool.{and_from, and_parts}
 use Rattle.std.proofs.lemmas.Grind.{flat_map-append}
 use Rattle.std.proofs.lemmas.List.{length-append}
 use Rattle.std.proofs.lemmas.List.Splits.{join_with_byte-slice_split}
+use Rattle.doc_tree.specs.declared.tree.TheConstants.Tree.{MOST_CHILDREN}
 use Rattle.doc_tree.specs.Tree.{DocTree, Kids, no_kids, kid, count}
 use Rattle.doc_tree.specs.Words.{are_names, is_name, is_path, is_text}
 use Rattle.line_texts.specs.Lines.{has_feed, is_end, lines_of}
+use Rattle.dump_text.specs.declared.grow.TheConstants.{MOST_NODES}
 use Rattle.dump_text.specs.Contents.{Contents, contents_in, contents_of, ended, fault_at}
 use Rattle.dump_text.specs.Contents.{nodes_from, nodes_of, placed, turn_of}
 use Rattle.dump_text.specs.Contents.{with_head, with_nodes, with_root, with_turn}
@@ -98,24 +100,25 @@ ended_back nodes all lines more is =
 placed_back : (nodes all : List Listed) (node : Listed) (lines : List (List ℕ))
     (later : List Listed → Result (List Listed) LoadFault)
     → with_turn nodes (placed nodes node) lines later ≡ Ok all
-    → (later (nodes ++ node ∷ []) ≡ Ok all) × (length nodes < 10_000)
+    → (later (nodes ++ node ∷ []) ≡ Ok all) × (length nodes < MOST_NODES)
 placed_back nodes all node lines later is =
-    let big = nat_le 10_000 (length nodes) in
+    let big = nat_le MOST_NODES (length nodes) in
     elim (not (follows nodes node.path)) as (λ b. with_turn nodes (cond b (Err NoOrder)
-    (cond (nat_le 256 (siblings nodes node.path)) (Err Many)
+    (cond (nat_le MOST_CHILDREN (siblings nodes node.path)) (Err Many)
     (cond big (Err Big) (Ok (Some (nodes ++ node ∷ [])))))) lines later ≡ Ok all
-    → (later (nodes ++ node ∷ []) ≡ Ok all) × (length nodes < 10_000)) [
+    → (later (nodes ++ node ∷ []) ≡ Ok all) × (length nodes < MOST_NODES)) [
       | true ↦ λ h. cc
       | false ↦ λ h.
-          elim (nat_le 256 (siblings nodes node.path)) as (λ b. with_turn nodes (cond b (Err Many)
+          elim (nat_le MOST_CHILDREN (siblings nodes node.path))
+          as (λ b. with_turn nodes (cond b (Err Many)
           (cond big (Err Big) (Ok (Some (nodes ++ node ∷ []))))) lines later ≡ Ok all
-          → (later (nodes ++ node ∷ []) ≡ Ok all) × (length nodes < 10_000)) [
+          → (later (nodes ++ node ∷ []) ≡ Ok all) × (length nodes < MOST_NODES)) [
             | true ↦ λ g. cc
             | false ↦ λ g.
-                elim big as (λ b. nat_le 10_000 (length nodes) ≡ b
+                elim big as (λ b. nat_le MOST_NODES (length nodes) ≡ b
                 → with_turn nodes (cond b (Err Big) (Ok (Some (nodes ++ node ∷ [])))) lines later
                 ≡ Ok all
-                → (later (nodes ++ node ∷ []) ≡ Ok all) × (length nodes < 10_000)) [
+                → (later (nodes ++ node ∷ []) ≡ Ok all) × (length nodes < MOST_NODES)) [
                   | true ↦ λ e f. cc
                   | false ↦ λ e f. (f, low_ten (length nodes) e)
                 ] refl g
@@ -127,10 +130,10 @@ pub record IsRest (nodes all : List Listed) (lines : List (List ℕ)) : Type 0 w
   pub whole : all ≡ nodes ++ more
   pub text : join_with_byte 10 lines ≡ lines_with more ++ end_line (length all)
   pub words : AreLines more
-  pub few : length all ≤ 10_000
+  pub few : length all ≤ MOST_NODES
 
 rest_ended : (nodes all : List Listed) (line : List ℕ) (lines : List (List ℕ))
-    → length nodes ≤ 10_000
+    → length nodes ≤ MOST_NODES
     → line_of (length nodes) (has_feed lines) line ≡ Ok held.End
     → ended nodes lines ≡ Ok all → IsRest nodes all (line ∷ lines)
 rest_ended nodes all line lines few is done =
@@ -165,7 +168,7 @@ rest_more nodes all node line lines is later =
       few = later.few;
     }
 
-rest_of_lines : (lines : List (List ℕ)) (nodes all : List Listed) → length nodes ≤ 10_000
+rest_of_lines : (lines : List (List ℕ)) (nodes all : List Listed) → length nodes ≤ MOST_NODES
     → nodes_from nodes lines ≡ Ok all → IsRest nodes all lines
 rest_of_lines [] nodes all few is = cc
 rest_of_lines (line ∷ lines) nodes all few is =
@@ -197,7 +200,7 @@ pub record IsText (bytes : List ℕ) (v : ℕ) (nodes : List Listed) : Type 0 wh
   pub written : bytes ≡ head_line v
       ++ (root_line root ++ (lines_with more ++ end_line (length nodes)))
   pub version : v ≤ 1_000_000
-  pub few : length nodes ≤ 10_000
+  pub few : length nodes ≤ MOST_NODES
   pub text : is_text root ≡ true
   pub words : AreLines more
 
@@ -291,7 +294,7 @@ next_line nodes text rest reading lines is read =
     (λ more. nodes_from more (lines_of rest))) read
 
 nodes_end : (nodes : List Listed) (total : ℕ) (tail : List ℕ) → total ≡ length nodes
-    → total ≤ 10_000
+    → total ≤ MOST_NODES
     → nodes_from nodes (lines_of (end_line total ++ tail)) ≡ ended nodes (lines_of tail)
 nodes_end nodes total tail same few =
     let small : total < 2 ^ 64 = omega arith in
@@ -312,7 +315,7 @@ nodes_more nodes node rest path text next =
     ∙ ap (λ r. with_turn nodes r (lines_of rest) (λ more. nodes_from more (lines_of rest))) next
 
 pub nodes_of_lines : (more nodes : List Listed) (total : ℕ) (tail : List ℕ)
-    → total ≡ length nodes + length more → total ≤ 10_000 → AreLines more → AreNext nodes more
+    → total ≡ length nodes + length more → total ≤ MOST_NODES → AreLines more → AreNext nodes more
     → nodes_from nodes (lines_of (lines_with more ++ (end_line total ++ tail)))
     ≡ ended (nodes ++ more) (lines_of tail)
 nodes_of_lines [] nodes total tail same few words next =
@@ -349,7 +352,7 @@ regroup a b c d tail = simp append_assoc
 
 -- the whole dump, before other bytes
 pub contents_of_dump : (v : ℕ) (t : DocTree) (tail : List ℕ) → v ≤ 1_000_000
-    → count t ≤ 10_000 → is_text t.text ≡ true → AreLines (listed_below t.kids)
+    → count t ≤ MOST_NODES → is_text t.text ≡ true → AreLines (listed_below t.kids)
     → AreNext (root_of t.text ∷ []) (listed_below t.kids)
     → contents_of (dump_of v t ++ tail) ≡ with_nodes v (ended (listed t) (lines_of tail))
 contents_of_dump v t tail low few text words next =

@@ -5,6 +5,7 @@ use Rattle.doc_tree.specs.declared.edit.EditFault.{EditFault}
 use Rattle.doc_tree.specs.declared.edit.EditFault.TheVariants as edit
 use Rattle.doc_tree.specs.Lawful.{IsLawful}
 use Rattle.doc_tree.specs.Tree.{DocTree, count}
+use Rattle.dump_text.specs.declared.grow.TheConstants.{MOST_NODES}
 use Rattle.dump_text.specs.Contents.{Contents}
 use Rattle.dump_text.specs.Listing.{Listed, listed}
 use Rattle.dump_text.specs.declared.fault.LineError.{LineError}
@@ -46,7 +47,7 @@ names_in (Some path) = path
 -- the lines so far are those of a tree that a dump may begin with, and this is the last path
 pub record IsGrown (path : Path) (t : DocTree) : Type 0 where
   pub lawful : IsLawful t
-  pub few : count t ≤ 10_000
+  pub few : count t ≤ MOST_NODES
   pub last : path ≡ last_path (listed t)
 
 -- the answer is the tree of these nodes, the last of which is at this path

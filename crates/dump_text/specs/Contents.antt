@@ -8,7 +8,9 @@
 -- Source: this project's own.
 use Rattle.std.specs.Prelude.{ℕ, Bool, true, false, not, ◌+◌, List, [], ◌∷◌, ◌++◌, length, nat_le}
 use Rattle.std.specs.Prelude.{Option, Some, None, Result, Ok, Err, if◌then◌else◌}
+use Rattle.doc_tree.specs.declared.tree.TheConstants.Tree.{MOST_CHILDREN}
 use Rattle.line_texts.specs.Lines.{has_feed, is_end, lines_of}
+use Rattle.dump_text.specs.declared.grow.TheConstants.{MOST_NODES}
 use Rattle.dump_text.specs.Line.{head_of, line_of, root_line_of}
 use Rattle.dump_text.specs.Listing.{Listed, root_of}
 use Rattle.dump_text.specs.Order.{follows, siblings}
@@ -30,8 +32,8 @@ fault_at line kind = Err (record { line = line; kind = kind })
 abbrev pub placed : List Listed → Listed → Result (Option (List Listed)) LoadKind
 placed nodes node =
     if not (follows nodes node.path) then Err NoOrder
-    else if nat_le 256 (siblings nodes node.path) then Err Many
-    else if nat_le 10_000 (length nodes) then Err Big
+    else if nat_le MOST_CHILDREN (siblings nodes node.path) then Err Many
+    else if nat_le MOST_NODES (length nodes) then Err Big
     else Ok (Some (nodes ++ node ∷ []))
 
 -- what a line adds to these nodes: one more, or none at the end

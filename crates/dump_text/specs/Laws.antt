@@ -4,6 +4,7 @@ use Rattle.std.specs.Prelude.{◌≡◌, ℕ, ◌≤◌, Bool, true, ◌&&◌, L
 use Rattle.doc_tree.specs.Lawful.{IsLawful}
 use Rattle.doc_tree.specs.Tree.{DocTree, Kids, no_kids, kid, count}
 use Rattle.doc_tree.specs.Words.{is_name, is_text}
+use Rattle.dump_text.specs.declared.grow.TheConstants.{MOST_NODES}
 use Rattle.dump_text.specs.Dump.{dump_of}
 
 -- the children's names are names, and their texts are texts
@@ -16,7 +17,7 @@ has_words (kid name text inside rest) =
 pub record IsDump (bytes : List ℕ) (v : ℕ) (t : DocTree) : Type 0 where
   pub written : bytes ≡ dump_of v t
   pub version : v ≤ 1_000_000
-  pub few : count t ≤ 10_000
+  pub few : count t ≤ MOST_NODES
   pub lawful : IsLawful t
   pub text : IsTrue (is_text t.text)
   pub words : IsTrue (has_words t.kids)

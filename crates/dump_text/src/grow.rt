@@ -14,8 +14,8 @@ use crate::order::is_next;
 use doc_tree::{EditFault, Name, NoMemory, Path, Text, Tree};
 use std::alloc::Global;
 
-// A dump has at most this many nodes.
-const MOST_NODES: u64 = 10_000;
+/// A dump has at most this many nodes.
+pub const MOST_NODES: u64 = 10_000;
 
 /// What a line gives: a node more, or the end.
 #[derive(Drop)]

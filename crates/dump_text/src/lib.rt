@@ -15,6 +15,7 @@ mod order;
 mod theorems;
 
 pub use crate::fault::{LoadError, LoadFault, LoadKind};
+pub use crate::grow::MOST_NODES;
 pub use crate::loader::{Loaded, load};
 pub use crate::theorems::no_dump_begins_another;
 pub use doc_tree::{NoMemory, Tree};

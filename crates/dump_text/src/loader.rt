@@ -12,7 +12,7 @@ ghost use Rattle.dump_text.specs.Listing.{listed};
 ghost use Rattle.dump_text.specs.declared.fault.LoadError.TheVariants as load;
 
 use crate::fault::{LineError, LoadError, LoadFault, LoadKind};
-use crate::grow::{Turn, lone_node, read_turn};
+use crate::grow::{MOST_NODES, Turn, lone_node, read_turn};
 use crate::line::{read_head, read_root};
 use doc_tree::{Name, Path, Tree};
 use line_texts::{cut_line, is_end};
@@ -117,7 +117,7 @@ fn names_of(last: &Option<Path>) -> &[Name]
 // The tree, if no byte follows the end.
 fn ended(tree: Tree, rest: Option<&[u8]>) -> Result<Tree, LoadError>
     requires lawful { IsLawful tree }
-    requires few { count tree ≤ 10_000 }
+    requires few { count tree ≤ MOST_NODES }
     ensures nodes { Lists result (ended (listed tree) (lines_left rest.entry)) }
     ensures lawful { ForOk result IsLawful }
 {

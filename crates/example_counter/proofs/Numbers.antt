@@ -1,6 +1,7 @@
 -- What a read of the record tells: its number, where it finds one.
 use Rattle.std.proofs.Common.{◌≡◌, ◌∙◌, ◌==◌, ◌∷◌, ◌++◌, ℕ, List, [], Bool, true}
-use Rattle.std.proofs.Common.{Option, Some, None, ap, sym, subst, refl, arith, length, if◌then◌else◌}
+use Rattle.std.proofs.Common.{Option, Some, None, ap, sym, subst, refl, arith, length}
+use Rattle.std.proofs.Common.{if◌then◌else◌}
 use Rattle.std.specs.Prelude.{slice_index_or}
 use Rattle.cell_words.specs.Term.{Term, null, number, part}
 use Rattle.cell_words.specs.declared.fields.Field.{Field}

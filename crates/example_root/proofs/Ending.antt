@@ -1,90 +1,70 @@
 -- The close: the box has what the first mutator keeps.
-use Rattle.std.proofs.Common.{◌≡◌, ◌∙◌, ℕ, zero, suc, Option, length, refl, sym, ap, arith}
-use Rattle.atomic_table.proofs.Lists.{set_here}
-use Rattle.std.proofs.lemmas.List.{length-set}
+use Rattle.std.proofs.Common.{◌≡◌, ◌∙◌, ℕ, List, Option, length, sym, ap, subst}
 use mathlib.Core.Option.{some}
 use lib.ListN.{get_elem?}
-use Rattle.beside_collector.specs.Serving.{IsStill}
-use Rattle.cell_heap.specs.Telling.{AreJoined}
 use Rattle.core_machine.specs.State.{greatest_cycles}
 use Rattle.heap_rule.specs.Lore.{Plain}
-use Rattle.heap_rule.specs.Moves.{joined_view}
 use Rattle.heap_rule.specs.NoRule.{no_field_is_fixed}
 use Rattle.heap_rule.specs.Rule.{share_of}
 use Rattle.heap_rule.specs.Shape.{Shape}
-use Rattle.heap_rule.specs.declared.view.Place.{Place}
 use Rattle.heap_rule.specs.declared.view.Place.TheVariants as places
-use Rattle.heap_rule.specs.declared.view.View.{View}
-use Rattle.heap_table.specs.Seats.{SeatView}
-use Rattle.mutator_threads.specs.Closing.{HasClosed}
+use Rattle.heap_table.specs.Seats.{HeapId}
+use Rattle.mutator_threads.specs.Closing.{IsClosed, passes_of}
+use Rattle.mutator_threads.specs.Mutators.{AreOver, IsOver, views_of}
 use Rattle.mutator_threads.specs.declared.closing.Closed.{Closed}
-use Rattle.example_root.specs.Leaving.{Leaves}
+use Rattle.mutator_threads.specs.declared.worker.Worker.{Worker}
+use Rattle.mutator_threads.proofs.EachDone.{part_at}
+use Rattle.example_root.specs.Holding.{IsDone}
+use Rattle.example_root.specs.Leaving.{Leaves, kept_shape}
 use Rattle.example_root.specs.Rule.{HasKept, kept_term, nothing_kept}
+use Rattle.example_root.specs.Working.{Reports}
 use Rattle.example_root.specs.declared.kept.Kept.{Kept}
-use Rattle.example_root.proofs.Reading.{first_joined}
+use Rattle.example_root.specs.declared.working.Report.{Report}
 use Rattle.example_root.proofs.Words.{kept_in}
 
--- Both seats are joined to the collector's.
-module _ (old mid new first second : SeatView Kept)
-    (one : mid ≡ record old { me = joined_view old.me first.me })
-    (two : new ≡ record mid { me = joined_view mid.me second.me })
-    (many : length old.me.places ≡ 2) (n0 : first.me.number ≡ 0) (n1 : second.me.number ≡ 1) where
-  both_joined : new.me ≡ joined_view (joined_view old.me first.me) second.me
-  both_joined = ap (λ (s : SeatView Kept). s.me) two
-      ∙ ap (λ (s : SeatView Kept). joined_view s.me second.me) one
+-- both mutators are over
+module _ (heap : HeapId) (number : ℕ) (report : Report) (done : Reports heap number report) where
+  pub are_two : length report.workers.items ≡ 2
+  are_two = ap (λ (ws : List (Worker Kept (Unit {0}))). length ws) done.both
 
-  pub still_both : IsStill old new
-  still_both = record {
-    table = ap (λ (s : SeatView Kept). s.table) two ∙ ap (λ (s : SeatView Kept). s.table) one;
-    shape = ap (λ (s : SeatView Kept). s.me.shape) two
-        ∙ ap (λ (s : SeatView Kept). s.me.shape) one;
-    control = ap (λ (s : SeatView Kept). s.me.control) two
-        ∙ ap (λ (s : SeatView Kept). s.me.control) one;
-    trail = ap (λ (s : SeatView Kept). s.me.trail) two
-        ∙ ap (λ (s : SeatView Kept). s.me.trail) one;
-  }
-
-  pub first_there : get_elem? new.me.places 0 ≡ some (places.Joined (share_of first.me))
-  first_there = first_joined old.me new.me first.me second.me many n0 n1 both_joined
-
-  second_there : get_elem? new.me.places 1 ≡ some (places.Joined (share_of second.me))
-  second_there =
-      let front = (joined_view old.me first.me).places in
-      let mine : Place Kept = places.Joined (share_of second.me) in
-      let long : length front ≡ 2 =
-      length-set old.me.places first.me.number (places.Joined (share_of first.me)) ∙ many in
-      ap (λ (u : View Kept). get_elem? u.places 1) both_joined
-      ∙ ap (λ (k : ℕ). get_elem? (joined_view (joined_view old.me first.me) second.me).places k)
-      (sym n1)
-      ∙ set_here front second.me.number mine (omega (arith, long, n1))
-
-  pub are_joined : old.me.shape.mutators ≡ 2 → AreJoined new.me
-  are_joined so zero lt = (share_of first.me, first_there)
-  are_joined so (suc zero) lt = (share_of second.me, second_there)
-  are_joined so (suc (suc i)) lt =
-      let those : new.me.shape.mutators ≡ 2 =
-      ap (λ (h : Shape). h.mutators) still_both.shape ∙ so in
-      absurd (omega (arith, lt, those))
+  pub are_over : AreOver heap report.workers.items
+  are_over =
+      let first = done.first_over in
+      let second = done.second_over in
+      subst (λ (ws : List (Worker Kept (Unit {0}))). AreOver heap ws) (sym done.both) (
+        record { seat_is = first.seat_is; number_is = first.number_is; over = first.over },
+        (
+          record { seat_is = second.seat_is; number_is = second.number_is; over = second.over },
+          tt,
+        ),
+      )
 
 -- and the heap was closed
-pub leaves : (h : Shape) (parts : View Kept) (first : View Kept) (kept : Option ℕ)
-    (closed : Closed Kept) → h.mutators ≡ 2 → first.pass.number ≡ kept
-    → get_elem? parts.places 0 ≡ some (places.Joined (share_of first))
-    → HasClosed nothing_kept HasKept no_field_is_fixed h greatest_cycles parts.places closed
-    → Leaves h.cells kept closed.freed closed.image closed.passes
-leaves h parts first kept closed two k0 at has =
-    let s = has.ended.shows in
-    let pass_is : get_elem? s.passes 0 ≡ some first.pass =
-    (has.ended.collector.joined 0 (share_of first)
-    (ap (λ ps. get_elem? ps 0) has.places_are ∙ at)).pass in
-    record {
-      shape = h;
-      cells_are = refl;
-      mutators_are = two;
-      ended = has.ended;
-      shows = has.shows;
-      kept_is = kept_in s.core s.lore s.facts s.passes s.kept kept
-          (s.kept.kept first.pass pass_is
-          ∙ ap (λ (k : Option ℕ). Plain (kept_term k)) k0);
-      collected = has.collected;
-    }
+module _ (cells : ℕ) (heap : HeapId) (number : ℕ) (report : Report) (closed : Closed Kept)
+    (done : Reports heap number report) (is : heap.shape ≡ kept_shape cells)
+    (so : IsClosed nothing_kept HasKept no_field_is_fixed heap.shape greatest_cycles
+    (views_of report.workers.items) closed) where
+  pub first_there : get_elem? closed.passes.places 0
+      ≡ some (places.Joined (share_of done.first.seat.me))
+  first_there = part_at report.workers.items closed.passes.places so.has_closed.places_are 0
+      done.first (ap (λ (ws : List (Worker Kept (Unit {0}))). get_elem? ws 0) done.both)
+
+  pub leaves : Leaves cells report.left closed.freed closed.image closed.passes
+  leaves =
+      let has = so.has_closed in
+      let s = has.ended.shows in
+      let passes_are = so.passes_are
+      ∙ ap (λ (ws : List (Worker Kept (Unit {0}))). passes_of (views_of ws)) done.both in
+      let pass_is : get_elem? s.passes 0 ≡ some done.first.seat.me.pass =
+      ap (λ (ps : List Kept). get_elem? ps 0) passes_are in
+      record {
+        shape = heap.shape;
+        cells_are = ap (λ (h : Shape). h.cells) is;
+        mutators_are = ap (λ (h : Shape). h.mutators) is;
+        ended = has.ended;
+        shows = has.shows;
+        kept_is = kept_in s.core s.lore s.facts s.passes s.kept report.left
+            (s.kept.kept done.first.seat.me.pass pass_is
+            ∙ ap (λ (k : Option ℕ). Plain (kept_term k)) done.first_over.kept_is);
+        collected = has.collected;
+      }

@@ -32,7 +32,8 @@ use Rattle.mutator_seat.proofs.Writes.{cell_same, field_same, many_same}
 use Rattle.promotion.proofs.Filling.{reveals_nothing}
 use Rattle.cell_making.proofs.Naming.{sealed_value}
 use Rattle.example_root.specs.Holding.{Has, HoldsRecord}
-use Rattle.example_root.specs.Rule.{HasKept, keeping_if, kept_term, number_of, number_record, putting}
+use Rattle.example_root.specs.Rule.{HasKept, keeping_if, kept_term, number_of, number_record}
+use Rattle.example_root.specs.Rule.{putting}
 use Rattle.example_root.specs.declared.kept.Kept.{Kept}
 use Rattle.example_root.proofs.Finding.{record_there}
 use Rattle.example_root.proofs.Words.{none_word}

@@ -3,7 +3,6 @@ use Rattle.std.proofs.Common.{◌≡◌, ℕ, List, [], ◌∷◌, ◌++◌, Opt
 use Rattle.std.proofs.Common.{◌∙◌, ap, arith, subst, IfSome, Bool, true, false}
 use Rattle.std.specs.Bool.{OnFalse, OnTrue}
 use Rattle.std.proofs.lemmas.List.{append_assoc}
-use Rattle.atomic_table.proofs.Lists.{set_else, set_here}
 use mathlib.Core.Option.{some}
 use lib.ListN.{get_elem?}
 use Rattle.cell_words.specs.declared.fields.Field.TheVariants as field
@@ -14,9 +13,7 @@ use Rattle.core_machine.specs.declared.events.Event.TheVariants as event
 use Rattle.core_machine.specs.declared.events.Found.{Found}
 use Rattle.core_machine.specs.declared.events.Taken.{Taken}
 use Rattle.heap_rule.specs.Asks.{target}
-use Rattle.heap_rule.specs.Moves.{joined_view}
 use Rattle.heap_rule.specs.Rule.{share_of, took}
-use Rattle.heap_rule.specs.declared.view.Place.{Place}
 use Rattle.heap_rule.specs.declared.view.Place.TheVariants as places
 use Rattle.heap_rule.specs.declared.view.View.{View}
 use Rattle.heap_table.specs.Seats.{SeatView}
@@ -117,7 +114,7 @@ read_in number a b c s went own down left =
       before = a.seat.me.trail;
       out = out;
       out_is = went.out_is;
-      behind = back ∷ (added ++ more);
+      later = back ∷ (added ++ more);
       trail_is = left.1 ∙ ap (λ (ts : List Taken). ts ++ more) down.reads.trail
           ∙ append_assoc b.seat.me.trail added more
           ∙ ap (λ (ts : List Taken). ts ++ (added ++ more)) went.trail
@@ -128,26 +125,15 @@ read_in number a b c s went own down left =
           (marks_from o (added ++ more))) same all);
     }
 
-pub read_behind : (n : ℕ) (found : Option ℕ) (a b c : Bound Kept) (s : SeatView Kept)
+pub read_later : (n : ℕ) (found : Option ℕ) (a b c : Bound Kept) (s : SeatView Kept)
     → WentOut a b → b.seat.me.own ≡ own_along no_own b.seat.me.trail
     → IfSome found (λ read. (read ≡ n) × ReadsDown read b c) → EndsTrail c s
     → IfSome found (λ read. (read ≡ n) × ReadBack read s.me.trail)
-read_behind n None a b c s went own reads left = tt
-read_behind n (Some read) a b c s went own reads left =
+read_later n None a b c s went own reads left = tt
+read_later n (Some read) a b c s went own reads left =
     (reads.0, read_in read a b c s went own reads.1 left)
 
 -- the joined seat of the first mutator
-pub first_joined : (v w t0 t1 : View Kept) → length v.places ≡ 2 → t0.number ≡ 0
-    → t1.number ≡ 1 → w ≡ joined_view (joined_view v t0) t1
-    → get_elem? w.places 0 ≡ some (places.Joined (share_of t0))
-first_joined v w t0 t1 many first second is =
-    let mine : Place Kept = places.Joined (share_of t0) in
-    ap (λ (u : View Kept). get_elem? u.places 0) is
-    ∙ set_else (joined_view v t0).places t1.number 0 (places.Joined (share_of t1))
-    (λ e. let one : 0 ≡ 1 = e ∙ second in absurd cc)
-    ∙ subst (λ (k : ℕ). get_elem? (joined_view v t0).places k ≡ some mine) first
-    (set_here v.places t0.number mine (omega (arith, many, first)))
-
 pub found_back : (n : ℕ) (found : Option ℕ) (first : SeatView Kept) (v : View Kept)
     → IfSome found (λ read. (read ≡ n) × ReadBack read first.me.trail)
     → get_elem? v.places 0 ≡ some (places.Joined (share_of first.me))

@@ -53,11 +53,11 @@ pub record ReadBack (number : ℕ) (trail : List Taken) : Type 0 where
   pub before : List Taken
   pub out : Taken
   pub out_is : out.event ≡ event.End who
-  pub behind : List Taken
-  pub trail_is : trail ≡ before ++ out ∷ behind
+  pub later : List Taken
+  pub trail_is : trail ≡ before ++ out ∷ later
   pub cell : ℕ
   pub shown : InOrder (reads_down cell number)
-      (marks_from (own_along no_own (before ++ out ∷ [])) behind)
+      (marks_from (own_along no_own (before ++ out ∷ [])) later)
 
 -- so the joined seat of the first mutator has it
 pub record WasReadBack (number : ℕ) (view : View Kept) : Type 0 where

@@ -1,6 +1,7 @@
 -- What the two mutators have before they begin, and what they leave.
 -- Source: this project's.
-use Rattle.std.specs.Prelude.{ℕ, ◌≡◌, ◌<◌, IfSome, None}
+use Rattle.std.specs.Prelude.{ℕ, ◌≡◌, ◌<◌, [], ◌∷◌, IfSome, None, length}
+use Rattle.beside_collector.specs.Places.{AllFrom}
 use Rattle.free_cells.specs.declared.queue.FreeQueue.{FreeQueue}
 use Rattle.heap_table.specs.Seats.{HeapId}
 use Rattle.mutator_threads.specs.Mutators.{IsWorker as IsNewWorker}
@@ -20,15 +21,19 @@ abbrev pub IsWorker : HeapId → FreeQueue → ℕ → Worker Kept (Unit {0}) �
 IsWorker heap queue number worker =
     IsNewWorker nothing_kept heap queue 8 anything_of number worker
 
+-- both, and a number that is small enough
 pub record AreWorkers (heap : HeapId) (queue : FreeQueue) (work : Blocking) : Type 0 where
-  pub first : IsWorker heap queue 0 work.first
-  pub second : IsWorker heap queue 1 work.second
+  pub two : length work.workers.items ≡ 2
+  pub workers : AllFrom (IsWorker heap queue) 0 work.workers.items
   pub small : work.number < 1000000
 
 -- The seats are over. What was read after the call, if a number was kept before, is that number,
 -- and the trail of the first shows that it was read.
 pub record Reports (heap : HeapId) (number : ℕ) (report : Report) : Type 0 where
-  pub first : IsDone heap 0 report.left report.first
-  pub second : IsDone heap 1 None report.second
+  pub first : Worker Kept (Unit {0})
+  pub second : Worker Kept (Unit {0})
+  pub both : report.workers.items ≡ first ∷ second ∷ []
+  pub first_over : IsDone heap 0 report.left first.seat
+  pub second_over : IsDone heap 1 None second.seat
   pub found : IfSome report.found
-      (λ read. (read ≡ number) × ReadBack read report.first.me.trail)
+      (λ read. (read ≡ number) × ReadBack read first.seat.me.trail)

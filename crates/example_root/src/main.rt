@@ -10,11 +10,11 @@
 //! in mutator_threads.
 //!
 //! Reading order: `kept`, specs/Rule, specs/Holding, `places`, `storing`, `wasting`,
-//! specs/ReadBack, specs/Working, `working`, specs/Leaving, `closing`, `whole`, `main`.
+//! specs/ReadBack, specs/Working, `working`, specs/Leaving, `opening`, `whole`, `main`.
 #![tactic(auto)]
 
-mod closing;
 mod kept;
+mod opening;
 mod places;
 mod storing;
 mod wasting;

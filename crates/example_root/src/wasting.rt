@@ -10,7 +10,7 @@ use crate::places::{come_in, leave, let_go};
 use cell_making::fill_record;
 use free_cells::{FreeQueue, Hints};
 use heap_table::CellHeap;
-use mutator_seat::{MutSeat, Mutator, Value};
+use mutator_seat::{Mutator, Value};
 use mutator_threads::Worker;
 use std::sync::Wait;
 
@@ -42,21 +42,27 @@ fn waste_one<R: Wait>(rt: &R, hints: &mut Hints<'_>, m: &mut Mutator<'_, Kept>, 
 }
 
 /// Makes so many records and drops each, by a mutator that comes in before and is over afterwards.
-/// It tells how many it made.
+/// It gives the worker back, and tells how many it made.
 pub(crate) fn waste<R: Wait>(
     rt: &R,
     heap: &CellHeap<Kept>,
     queue: &FreeQueue,
     worker: Worker<Kept, ()>,
-) -> (MutSeat<Kept>, u64)
+) -> (Worker<Kept, ()>, u64)
     requires worker { IsWorker heap.now queue.now 1 worker }
-    ensures done { IsDone heap.now 1 None result.0 }
+    ensures done { IsDone heap.now 1 None result.0.seat }
 {
-    let mut hints = queue.hints(worker.pass);
-    let mut m = come_in(heap, worker.seat);
+    let Worker { seat, pass, own } = worker;
+    let mut hints = queue.hints(pass);
+    let mut m = come_in(heap, seat);
     let mut made = 0;
     for number in 0..RECORDS {
         made += waste_one(rt, &mut hints, &mut m, number);
     }
-    (leave(m), made)
+    let over = Worker {
+        seat: leave(m),
+        pass: hints.into_pass(),
+        own,
+    };
+    (over, made)
 }

@@ -4,12 +4,12 @@ ghost use Rattle.std.specs.Prelude.{◌≡◌, IfOk, IfSome};
 ghost use Rattle.example_root.specs.Leaving.{Leaves};
 ghost use Rattle.example_root.specs.ReadBack.{WasReadBack};
 
-use crate::closing::{close_two, open_two};
 use crate::kept::Kept;
-use crate::working::{Blocking, Report, both};
+use crate::opening::open_two;
+use crate::working::{Blocking, Report};
 use cell_heap::{Image, NoMemory, Passes};
 use cell_words::GREATEST_CYCLES;
-use mutator_threads::{Closed, Opened, run_alongside};
+use mutator_threads::{Closed, Opened, close, run_alongside};
 use std::alloc::Global;
 use std::sync::Wait;
 use std::thread::Threads;
@@ -37,12 +37,12 @@ pub(crate) struct Ran {
 }
 
 /// A number is kept over a call that blocks, on a new heap whose collector runs alongside.
-#[tactic(auto, using(crate::proofs::Reading::found_back))]
 pub(crate) fn run<R: Threads + Wait + Sync>(alloc: Global, rt: &R) -> Result<Ran, NoMemory>
     ensures found { IfOk result (λ ran. IfSome ran.found
         (λ number. (number ≡ 42) × WasReadBack number ran.passes)) }
     ensures leaves { IfOk result (λ ran. Leaves 32 ran.left ran.freed ran.image ran.passes) }
 {
+    let own = Vec::with_capacity(alloc, 2)?;
     let opened = open_two(alloc, rt, CELLS)?;
     let Opened {
         heap,
@@ -50,21 +50,24 @@ pub(crate) fn run<R: Threads + Wait + Sync>(alloc: Global, rt: &R) -> Result<Ran
         keeper,
         workers,
     } = opened;
-    let work: Blocking = both(&heap, &queue, workers, NUMBER);
+    let work = Blocking {
+        workers,
+        number: NUMBER,
+    };
     let (report, off) = run_alongside(alloc, rt, &heap, &queue, keeper, GREATEST_CYCLES, work);
     let Report {
-        first,
-        second,
+        workers,
         found,
         left,
         made,
     } = report;
+    let (closed, _own) = close(rt, heap, &queue, GREATEST_CYCLES, off, workers, own);
     let Closed {
         image,
         passes,
         freed,
         ..
-    } = close_two(rt, heap, &queue, off, first, second, left);
+    } = closed;
     Ok(Ran {
         image,
         passes,

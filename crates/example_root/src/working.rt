@@ -1,9 +1,8 @@
 //! What the first mutator does: it keeps a record over a call that blocks, and reads it afterwards.
-ghost use Rattle.std.specs.Prelude.{◌≡◌, ◌<◌, IfNone, IfSome, None, Some, ℕ, length};
+ghost use Rattle.std.specs.Prelude.{◌≡◌, ◌≤◌, ◌<◌, ◌∷◌, [], IfSome, None, Some, ℕ, length};
+ghost use Rattle.std.specs.Prelude.{vec_capacity};
 ghost use Rattle.beside_collector.specs.Places.{AllFrom};
 ghost use Rattle.std.specs.Bool.{OnFalse, OnTrue};
-ghost use Rattle.free_cells.specs.declared.queue.FreeQueue.{FreeQueue as Queue};
-ghost use Rattle.heap_table.specs.Seats.{HeapId};
 ghost use Rattle.example_root.specs.Holding.{Has, HoldsSome, IsDone, KeepsSome};
 ghost use Rattle.cell_making.specs.Resting.{Rests};
 ghost use Rattle.core_machine.specs.Own.{no_own};
@@ -18,7 +17,7 @@ use crate::wasting::waste;
 use beside_collector::Work;
 use free_cells::{FreeQueue, Hints};
 use heap_table::CellHeap;
-use mutator_seat::{MutSeat, Mutator};
+use mutator_seat::Mutator;
 use mutator_threads::Worker;
 use std::alloc::Global;
 use std::sync::Wait;
@@ -56,12 +55,12 @@ fn over_call<R: Wait>(
     queue: &FreeQueue,
     m: &mut Mutator<'_, Kept>,
     other: Worker<Kept, ()>,
-) -> (MutSeat<Kept>, u64)
+) -> (Worker<Kept, ()>, u64)
     requires rests { Rests 8 m.old }
     requires other { IsWorker heap.now queue.now 1 other }
     ensures rests { Rests 8 m.new }
     ensures same { Has m.old.seat.me.pass.number m.old m.new }
-    ensures done { IsDone heap.now 1 None result.0 }
+    ensures done { IsDone heap.now 1 None result.0.seat }
     ensures away { WentOut m.old m.new }
 {
     m.end();
@@ -88,9 +87,8 @@ fn read_back(m: &mut Mutator<'_, Kept>) -> u64
 /// What the two mutators leave.
 #[derive(Drop)]
 pub(crate) struct Report {
-    /// the seats of both, which are over
-    pub(crate) first: MutSeat<Kept>,
-    pub(crate) second: MutSeat<Kept>,
+    /// both, whose seats are over
+    pub(crate) workers: Vec<Worker<Kept, ()>>,
     /// what was read after the call, if a number was kept before
     pub(crate) found: Option<u64>,
     /// what is still kept
@@ -139,29 +137,69 @@ fn read_kept(m: &mut Mutator<'_, Kept>, kept: bool, number: u64) -> (Option<u64>
     }
 }
 
+/// Takes the two workers out of their list, which keeps its room for them.
+fn take_both(
+    workers: Vec<Worker<Kept, ()>>,
+) -> (Vec<Worker<Kept, ()>>, Worker<Kept, ()>, Worker<Kept, ()>)
+    requires two { length workers.items ≡ 2 }
+    ensures both { workers.items ≡ result.1 ∷ result.2 ∷ [] }
+    ensures none { result.0.items ≡ [] }
+    ensures room { 2 ≤ vec_capacity result.0 }
+{
+    let mut workers = workers;
+    let Some(second) = workers.pop() else {
+        unreachable!();
+    };
+    let Some(first) = workers.pop() else {
+        unreachable!();
+    };
+    (workers, first, second)
+}
+
+/// Puts both into a list that has room for them.
+fn put_both(
+    workers: Vec<Worker<Kept, ()>>,
+    first: Worker<Kept, ()>,
+    second: Worker<Kept, ()>,
+) -> Vec<Worker<Kept, ()>>
+    requires none { workers.items ≡ [] }
+    requires room { 2 ≤ vec_capacity workers }
+    ensures both { result.items ≡ first ∷ second ∷ [] }
+{
+    let mut workers = workers;
+    workers.push_reserved(first);
+    workers.push_reserved(second);
+    workers
+}
+
 /// Keeps a number over a call that blocks, and reads it afterwards.
 #[tactic(auto, using(crate::proofs::Reading::kept_after, crate::proofs::Reading::none_after))]
 fn work<R: Wait>(
     rt: &R,
     heap: &CellHeap<Kept>,
     queue: &FreeQueue,
-    first: Worker<Kept, ()>,
-    second: Worker<Kept, ()>,
+    workers: Vec<Worker<Kept, ()>>,
     number: u64,
 ) -> Report
-    requires first { IsWorker heap.now queue.now 0 first }
-    requires second { IsWorker heap.now queue.now 1 second }
+    requires two { length workers.items ≡ 2 }
+    requires workers { AllFrom (IsWorker heap.now queue.now) 0 workers.items }
     requires small { number < 1000000 }
     ensures reports { Reports heap.now number result }
 {
-    let mut hints = queue.hints(first.pass);
-    let mut m = come_in(heap, first.seat);
+    let (list, first, second) = take_both(workers);
+    let Worker { seat, pass, own } = first;
+    let mut hints = queue.hints(pass);
+    let mut m = come_in(heap, seat);
     let kept = keep_number(rt, &mut hints, &mut m, number);
     let (second, made) = over_call(rt, heap, queue, &mut m, second);
     let (found, left) = read_kept(&mut m, kept, number);
+    let first = Worker {
+        seat: leave(m),
+        pass: hints.into_pass(),
+        own,
+    };
     Report {
-        first: leave(m),
-        second,
+        workers: put_both(list, first, second),
         found,
         left,
         made,
@@ -171,39 +209,8 @@ fn work<R: Wait>(
 /// The work of both mutators, alongside the collector.
 #[derive(Drop)]
 pub(crate) struct Blocking {
-    pub(crate) first: Worker<Kept, ()>,
-    pub(crate) second: Worker<Kept, ()>,
+    pub(crate) workers: Vec<Worker<Kept, ()>>,
     pub(crate) number: u64,
-}
-
-/// The work of the two workers with this number. The heap and the queue are those that they were
-/// opened with: only contracts read them.
-pub(crate) fn both(
-    heap: &CellHeap<Kept>,
-    queue: &FreeQueue,
-    workers: Vec<Worker<Kept, ()>>,
-    number: u64,
-) -> Blocking
-    requires two { length workers.items ≡ 2 }
-    requires workers { AllFrom (IsWorker heap.now queue.now) 0 workers.items }
-    requires small { number < 1000000 }
-    ensures workers { AreWorkers heap.now queue.now result }
-    ensures number { result.number ≡ number }
-{
-    let _ = heap;
-    let _ = queue;
-    let mut workers = workers;
-    let Some(second) = workers.pop() else {
-        unreachable!();
-    };
-    let Some(first) = workers.pop() else {
-        unreachable!();
-    };
-    Blocking {
-        first,
-        second,
-        number,
-    }
 }
 
 impl Work<Kept> for Blocking {
@@ -221,11 +228,7 @@ impl Work<Kept> for Blocking {
         queue: &FreeQueue,
     ) -> Report {
         let _ = alloc;
-        let Blocking {
-            first,
-            second,
-            number,
-        } = self;
-        work(rt, heap, queue, first, second, number)
+        let Blocking { workers, number } = self;
+        work(rt, heap, queue, workers, number)
     }
 }

@@ -1,12 +1,14 @@
 -- What a whole put or removal leaves: order, number and height.
 use Rattle.std.proofs.Common.{◌≡◌, ℕ, zero, suc, ◌<◌, ◌≤◌, List, Option, None, Some, sym}
 use Rattle.std.proofs.Common.{ap, arith, refl, subst}
+use Rattle.doc_tree.specs.declared.tree.TheConstants.Tree.{MOST_CHILDREN}
 use Rattle.doc_tree.specs.Tree.{DocTree, Kids, no_kids, kid, kid_count, child, IsRising}
 use Rattle.doc_tree.proofs.Rising.{rising_put, room_put, rising_delete, count_delete}
+use Rattle.kids_avl.specs.declared.bounds.TheConstants.{MOST_LEVELS}
 use Rattle.kids_avl.specs.Changes.{IsPut, IsWithout}
 use Rattle.kids_avl.specs.Entries.{Entries, kids_of, height_of, IsEntry, kid_at}
 use Rattle.kids_avl.specs.Pool.{under}
-use Rattle.kids_avl.proofs.Heights.{at_most_eleven, entry_counts}
+use Rattle.kids_avl.proofs.Heights.{at_most_levels, entry_counts}
 
 abbrev Rise : Kids → Type 0
 Rise kids = IsRising kids
@@ -16,30 +18,30 @@ pub put_rising : (m : List ℕ) (x : DocTree) (t new : Entries) → IsPut m x t 
 put_rising m x t new put rising = subst Rise (sym put.kids) (rising_put m x (kids_of t) rising)
 
 pub put_few : (m : List ℕ) (x : DocTree) (t new : Entries) → IsPut m x t new
-    → (child m (kids_of t) ≡ None → kid_count (kids_of t) < 256)
-    → kid_count (kids_of t) ≤ 256 → kid_count (kids_of new) ≤ 256
+    → (child m (kids_of t) ≡ None → kid_count (kids_of t) < MOST_CHILDREN)
+    → kid_count (kids_of t) ≤ MOST_CHILDREN → kid_count (kids_of new) ≤ MOST_CHILDREN
 put_few m x t new put room few =
     omega (arith, ap kid_count put.kids, room_put m x (kids_of t) room few)
 
 pub put_high : (m : List ℕ) (x : DocTree) (t new : Entries) → IsPut m x t new
-    → (child m (kids_of t) ≡ None → kid_count (kids_of t) < 256)
-    → kid_count (kids_of t) ≤ 256 → height_of new ≤ 11
+    → (child m (kids_of t) ≡ None → kid_count (kids_of t) < MOST_CHILDREN)
+    → kid_count (kids_of t) ≤ MOST_CHILDREN → height_of new ≤ MOST_LEVELS
 put_high m x t new put room few =
-    at_most_eleven new put.balanced (put_few m x t new put room few)
+    at_most_levels new put.balanced (put_few m x t new put room few)
 
 pub without_rising : (m : List ℕ) (t new : Entries) → IsWithout m t new → IsRising (kids_of t)
     → IsRising (kids_of new)
 without_rising m t new out rising = subst Rise (sym out.kids) (rising_delete m (kids_of t) rising)
 
 pub without_few : (m : List ℕ) (t new : Entries) → IsWithout m t new
-    → kid_count (kids_of t) ≤ 256 → kid_count (kids_of new) ≤ 256
+    → kid_count (kids_of t) ≤ MOST_CHILDREN → kid_count (kids_of new) ≤ MOST_CHILDREN
 without_few m t new out few =
     omega (arith, ap kid_count out.kids, count_delete m (kids_of t), few)
 
 pub without_high : (m : List ℕ) (t new : Entries) → IsWithout m t new
-    → kid_count (kids_of t) ≤ 256 → height_of new ≤ 11
+    → kid_count (kids_of t) ≤ MOST_CHILDREN → height_of new ≤ MOST_LEVELS
 without_high m t new out few =
-    at_most_eleven new out.balanced (without_few m t new out few)
+    at_most_levels new out.balanced (without_few m t new out few)
 
 pub some_kids : (t : Entries) → IsEntry t → kids_of t ≡ no_kids → ⊥
 some_kids t is none = omega (arith, ap kid_count none, entry_counts t is)

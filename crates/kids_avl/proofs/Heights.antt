@@ -1,9 +1,12 @@
--- The height of a balanced tree against the number of its entries: at most 11 for 256 of them.
+-- The height of a balanced tree against the number of its entries: at most `MOST_LEVELS` for
+-- `MOST_CHILDREN` of them.
 use Rattle.std.proofs.Common.{◌≡◌, ℕ, zero, suc, ◌+◌, ◌≤◌, max, refl, arith, subst}
 use Rattle.std.proofs.Common.{inl, inr}
 use Rattle.std.specs.Prelude.{◌⊎◌}
+use Rattle.doc_tree.specs.declared.tree.TheConstants.Tree.{MOST_CHILDREN}
 use Rattle.doc_tree.specs.Tree.{kid, kid_count}
 use Rattle.doc_tree.proofs.Joined.{count_join}
+use Rattle.kids_avl.specs.declared.bounds.TheConstants.{MOST_LEVELS}
 use Rattle.kids_avl.specs.Entries.{Entries, no_entries, entry, left_of, right_of}
 use Rattle.kids_avl.specs.Entries.{IsEntry, IsBalanced, kids_of, height_of}
 
@@ -56,8 +59,10 @@ fewest_entries (entry n d l r) balanced =
       count_join (kids_of l) (kid n d.text d.kids (kids_of r)),
     )
 
-pub at_most_eleven : (t : Entries) → IsBalanced t → kid_count (kids_of t) ≤ 256 → height_of t ≤ 11
-at_most_eleven t balanced few =
+-- 12 is one more than `MOST_LEVELS`: so many levels would be more than `MOST_CHILDREN` entries
+pub at_most_levels : (t : Entries) → IsBalanced t → kid_count (kids_of t) ≤ MOST_CHILDREN
+    → height_of t ≤ MOST_LEVELS
+at_most_levels t balanced few =
     grind (arith, fewest_rises 12 (height_of t), fewest_entries t balanced, few)
 
 pub left_lower : (t : Entries) → IsEntry t → height_of (left_of t) + 1 ≤ height_of t

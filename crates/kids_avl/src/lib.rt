@@ -6,9 +6,11 @@
 //! order, and each call stays within a number of places, records and entries made. What an entry is
 //! made of, and where it stands, is left to the pool; so are places that are given back.
 //!
-//! Reading order: `pool`, `calls`, `reading`, `putting`, `removing`, `joining`, `turning`.
+//! Reading order: `bounds`, `pool`, `calls`, `reading`, `putting`, `removing`, `joining`,
+//! `turning`.
 #![tactic(auto)]
 
+mod bounds;
 mod calls;
 mod joining;
 mod pool;
@@ -17,5 +19,8 @@ mod reading;
 mod removing;
 mod turning;
 
+pub use crate::bounds::{
+    CHANGE_PLACES, COUNT_PLACES, FIND_PLACES, MOST_LEVELS, PUT_ENTRIES, PUT_RECORDS, REMOVE_RECORDS,
+};
 pub use crate::calls::{find, kid_at, len, put, remove};
 pub use crate::pool::{KidPool, height_above};

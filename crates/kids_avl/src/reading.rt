@@ -7,7 +7,7 @@ ghost use Rattle.kids_avl.specs.Pool.{under, Stand, Later};
 ghost use Rattle.kids_avl.specs.Spots.{kid_of, IsPast, StandsHere};
 
 use crate::pool::KidPool;
-use doc_tree::Name;
+use doc_tree::{Name, Tree};
 use std::cmp::Ordering;
 
 #[tactic(auto, using(crate::proofs::Lists::finding, crate::proofs::Heights::lower))]
@@ -47,7 +47,7 @@ pub(crate) fn find_under<K: KidPool>(
 #[tactic(auto, using(crate::proofs::Lists::count_entry))]
 pub(crate) fn count_under<K: KidPool>(pool: &mut K, top: Option<K::At>) -> u32
     requires stands { Stand K.stands pool.old top }
-    requires few { kid_count (kids_of (under K.entries pool.old top)) ≤ 256 }
+    requires few { kid_count (kids_of (under K.entries pool.old top)) ≤ Tree.MOST_CHILDREN }
     requires places { 2 * kid_count (kids_of (under K.entries pool.old top)) ≤ K.places pool.old }
     ensures count { result ≡ kid_count (kids_of (under K.entries pool.old top)) }
     ensures later { Later K.stands K.entries K.is_child K.tree K.kept pool.old pool.new }

@@ -4,6 +4,7 @@
 use Rattle.std.specs.Prelude.{◌≡◌, ℕ, ◌+◌, ◌-◌, ◌<◌, ◌≤◌, List, [], ◌∷◌, ◌++◌, length}
 use Rattle.std.specs.Prelude.{slice_index_or, Option, None}
 use Rattle.doc_tree.specs.Tree.{DocTree, no_kids}
+use Rattle.kids_avl.specs.declared.bounds.TheConstants.{COUNT_PLACES}
 use Rattle.kids_avl.specs.Entries.{Entries, no_entries, entry, height_of, IsEntry}
 use Rattle.kids_avl.specs.Pool.{under, Stand}
 
@@ -68,7 +69,7 @@ grown start trees = length start ≤ length trees
 
 -- reading takes none
 abbrev pub places : List Entries → ℕ
-places trees = 512
+places trees = COUNT_PLACES
 
 abbrev pub spare : List Entries → ℕ
 spare trees = 4000 - length trees

@@ -1,6 +1,7 @@
 -- A row of children in a pool in memory.
 -- Source: this project's.
 use Rattle.std.specs.Prelude.{ℕ, ◌≤◌, List, Option}
+use Rattle.doc_tree.specs.declared.tree.TheConstants.Tree.{MOST_CHILDREN}
 use Rattle.doc_tree.specs.Tree.{Kids, kid_count, IsRising}
 use Rattle.kids_avl.specs.Entries.{Entries, kids_of, IsBalanced}
 use Rattle.kids_avl.specs.Pool.{under, Stand}
@@ -14,4 +15,4 @@ pub record IsKept (trees : List Entries) (root : Option ℕ) : Type 0 where
   pub stands : Stand HasEntry trees root
   pub balanced : IsBalanced (under tree_at trees root)
   pub rising : IsRising (row_of trees root)
-  pub few : kid_count (row_of trees root) ≤ 256
+  pub few : kid_count (row_of trees root) ≤ MOST_CHILDREN

@@ -6,7 +6,7 @@ ghost use Rattle.kids_tests.specs.Memory.{leaf};
 
 use crate::memory::MemPool;
 use doc_tree::{Name, NoMemory};
-use kids_avl::{KidPool, find, kid_at, len, put, remove};
+use kids_avl::{KidPool, PUT_RECORDS, REMOVE_RECORDS, find, kid_at, len, put, remove};
 use std::alloc::Global;
 use std::marker::Model;
 
@@ -68,7 +68,7 @@ impl Row {
     {
         let is_full = len(&mut self.pool, self.root) > 255;
         let is_new = find(&mut self.pool, self.root, name).is_none();
-        if is_full && is_new || self.pool.spare() < 38 {
+        if is_full && is_new || self.pool.spare() < PUT_RECORDS {
             return Err(Refused);
         }
         self.root = Some(put(&mut self.pool, self.root, name, child));
@@ -79,7 +79,7 @@ impl Row {
         ensures { OnOk result (self.new ≡ delete_child name.now self.old) }
     {
         let is_listed = find(&mut self.pool, self.root, name).is_some();
-        if !is_listed || self.pool.spare() < 33 {
+        if !is_listed || self.pool.spare() < REMOVE_RECORDS {
             return Err(Refused);
         }
         self.root = remove(&mut self.pool, self.root, name);

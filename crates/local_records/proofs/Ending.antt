@@ -1,5 +1,6 @@
 -- The roots that are cells are held after the first places, in order.
-use Rattle.std.proofs.Common.{◌≡◌, ◌<◌, ◌≤◌, ◌+◌, ◌++◌, ◌∷◌, ◌∙◌, ℕ, zero, suc, List, [], All, length}
+use Rattle.std.proofs.Common.{◌≡◌, ◌<◌, ◌≤◌, ◌+◌, ◌++◌, ◌∷◌, ◌∙◌, ℕ, zero, suc, List, [], All}
+use Rattle.std.proofs.Common.{length}
 use Rattle.std.proofs.Common.{Bool, map, take, true, refl, sym, ap, subst, arith, length-append}
 use Rattle.std.specs.Prelude.{drop, slice_index_or}
 use Rattle.std.proofs.lemmas.List.{append-nil, get_or_push, length-map, length-take-le}

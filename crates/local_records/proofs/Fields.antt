@@ -1,5 +1,6 @@
 -- What is so of each field, by kinds and words.
-use Rattle.std.proofs.Common.{◌≡◌, ◌<◌, ◌≤◌, ◌+◌, ◌⊎◌, ⊎_elim, ℕ, zero, suc, List, [], ◌∷◌, All, length}
+use Rattle.std.proofs.Common.{◌≡◌, ◌<◌, ◌≤◌, ◌+◌, ◌⊎◌, ⊎_elim, ℕ, zero, suc, List, [], ◌∷◌, All}
+use Rattle.std.proofs.Common.{length}
 use Rattle.std.proofs.Common.{sym, subst, arith}
 use Rattle.std.specs.Prelude.{slice_index_or}
 use Rattle.std.proofs.lemmas.List.Elements.{All-cons, All-nil}
@@ -62,6 +63,7 @@ below_next ks ws i last next le below here j lt = ⊎_elim
     (λ (less : j < i). field_wider last next
     (field_of (slice_index_or ks j kind.Null) (slice_index_or ws j 0)) le (below j less))
     (λ (same : j ≡ i). subst
-    (λ (k : ℕ). IsFieldBelow next (field_of (slice_index_or ks k kind.Null) (slice_index_or ws k 0)))
+    (λ (k : ℕ). IsFieldBelow next
+    (field_of (slice_index_or ks k kind.Null) (slice_index_or ws k 0)))
     (sym same) here)
     (before_or j i lt)

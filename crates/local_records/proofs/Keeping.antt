@@ -46,7 +46,8 @@ module _ (known : List Known) (named : ℕ) (records : List (List MinorField)) (
       copies_stay (take named known) known records copied places so.shares
       (first_still named known) so.copies
 
-  local_terms : terms_of (known_terms known) records ≡ terms_of (known_terms (take named known)) records
+  local_terms : terms_of (known_terms known) records
+      ≡ terms_of (known_terms (take named known)) records
   local_terms =
       terms_stay (take named known) known records so.shares (first_still named known)
 

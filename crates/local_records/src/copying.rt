@@ -1,5 +1,6 @@
 //! Copies of private records in the shared heap, a part at a time.
-ghost use Rattle.std.specs.Prelude.{◌≡◌, ◌≢◌, ◌<◌, ◌≤◌, ◌+◌, All, Err, IfOk, length, slice_index_or, true};
+ghost use Rattle.std.specs.Prelude.{◌≡◌, ◌≢◌, ◌<◌, ◌≤◌, ◌+◌, All, Err, IfOk, length};
+ghost use Rattle.std.specs.Prelude.{slice_index_or, true};
 ghost use Rattle.heap_rule.specs.Lore.{known_at};
 ghost use Rattle.minor_heap.specs.Nursery.{Stands};
 ghost use Rattle.minor_heap.specs.Terms.{terms_of};

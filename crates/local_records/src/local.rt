@@ -1,4 +1,5 @@
-ghost use Rattle.std.specs.Prelude.{◌≡◌, ◌≢◌, ◌+◌, ◌<◌, ◌↔◌, [], IfNone, IfOk, IfSome, List, None, length};
+ghost use Rattle.std.specs.Prelude.{◌≡◌, ◌≢◌, ◌+◌, ◌<◌, ◌↔◌, [], IfNone, IfOk, IfSome, List, None};
+ghost use Rattle.std.specs.Prelude.{length};
 ghost use Rattle.std.specs.Prelude.{true};
 ghost use Rattle.cell_words.specs.Term.{Term, part, IsFive};
 ghost use Rattle.heap_rule.specs.declared.known.Known.{Known};

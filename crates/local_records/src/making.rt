@@ -1,5 +1,6 @@
 //! One more record.
-ghost use Rattle.std.specs.Prelude.{◌≡◌, ◌++◌, ◌∷◌, ◌≤◌, ◌↔◌, [], All, Err, IfOk, List, OnErr, OnOk};
+ghost use Rattle.std.specs.Prelude.{◌≡◌, ◌++◌, ◌∷◌, ◌≤◌, ◌↔◌, [], All, Err, IfOk, List, OnErr};
+ghost use Rattle.std.specs.Prelude.{OnOk};
 ghost use Rattle.std.specs.Prelude.{length, max, true, ℕ};
 ghost use Rattle.cell_words.specs.Term.{Term};
 ghost use Rattle.heap_rule.specs.declared.known.Known.{Known};

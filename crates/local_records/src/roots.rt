@@ -1,5 +1,6 @@
 //! The roots that outlive moves.
-ghost use Rattle.std.specs.Prelude.{◌≡◌, ◌<◌, ◌≤◌, ◌++◌, ◌∷◌, ◌↔◌, [], IfNone, IfSome, IsErr, List, OnErr, OnOk};
+ghost use Rattle.std.specs.Prelude.{◌≡◌, ◌<◌, ◌≤◌, ◌++◌, ◌∷◌, ◌↔◌, [], IfNone, IfSome, IsErr, List};
+ghost use Rattle.std.specs.Prelude.{OnErr, OnOk};
 ghost use Rattle.std.specs.Prelude.{length, slice_set, take, ℕ};
 ghost use Rattle.heap_rule.specs.declared.known.Known.{Known};
 ghost use Rattle.local_references.specs.Roots.{RootStands, slot_at};

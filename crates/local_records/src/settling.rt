@@ -1,5 +1,6 @@
 //! The end of a copying: the roots that are cells are held after the first places, and no others.
-ghost use Rattle.std.specs.Prelude.{◌≡◌, ◌<◌, ◌≤◌, ◌+◌, ◌++◌, ◌∷◌, [], All, IfNone, IfSome, List, length, true, ℕ};
+ghost use Rattle.std.specs.Prelude.{◌≡◌, ◌<◌, ◌≤◌, ◌+◌, ◌++◌, ◌∷◌, [], All, IfNone, IfSome, List};
+ghost use Rattle.std.specs.Prelude.{length, true, ℕ};
 ghost use Rattle.minor_heap.specs.declared.fields.MinorRef.{MinorRef};
 ghost use Rattle.minor_heap.specs.Spans.{NoneMarked};
 ghost use Rattle.mutator_seat.specs.Bound.{Bound, IsBound, bound};

@@ -1,16 +1,14 @@
--- The senders after their run: the answers to their lines, and the collector's seat, to which
--- theirs are joined.
+-- The senders after their run: the answers to their lines, where their seats are joined to the
+-- collector's.
 -- Source: this project's.
-use Rattle.std.specs.Prelude.{ℕ, ◌≡◌, ◌<◌, List, length, map, Option, Vec}
+use Rattle.std.specs.Prelude.{ℕ, ◌≡◌, List, map, Option, Vec}
 use Rattle.std.specs.declared.alloc.Global.{Global}
 use mathlib.Core.Option.{some}
 use lib.ListN.{get_elem?}
 use Rattle.heap_rule.specs.declared.view.Place.{Place}
 use Rattle.heap_rule.specs.declared.view.Place.TheVariants as places
 use Rattle.heap_rule.specs.declared.view.Share.{Share}
-use Rattle.heap_table.specs.Seats.{SeatView}
 use Rattle.mail_rule.specs.declared.mail_pass.MailPass.{MailPass}
-use Rattle.beside_collector.specs.Serving.{IsStill}
 use Rattle.mail_threads.specs.Posts.{Posts}
 use Rattle.trails.specs.Marks.{marks_of}
 
@@ -33,12 +31,3 @@ pub record HasPosted (cells : ℕ) (scripts : List (List ℕ)) (sent : List (Lis
   pub share : Share MailPass
   pub share_at : get_elem? joined i ≡ some (places.Joined share)
   pub posts : Posts cells lines answers share.pass (marks_of share.trail)
-
--- This is so of each sender; the collector's seat is as it was, except for where the parts of its
--- mutators are.
-pub record AreTaken (cells : ℕ) (scripts : List (Vec ℕ Global))
-    (sent : List (Vec (Option ℕ) Global)) (old new : SeatView MailPass) : Type 0 where
-  pub still : IsStill old new
-  pub many : length sent ≡ length scripts
-  pub posted : (i : ℕ) → i < length scripts
-      → HasPosted cells (lists_of scripts) (answers_of sent) new.me.places i

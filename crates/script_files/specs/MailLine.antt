@@ -12,7 +12,8 @@ use Rattle.line_texts.specs.Cut.{word_of, rest_of, next_word_of, next_rest_of}
 use Rattle.line_texts.specs.Line.{counts, is_plain_byte}
 use Rattle.line_texts.specs.Numbers.{digits_of}
 use Rattle.script_files.specs.declared.mail_fault.MailKind.{MailKind}
-use Rattle.script_files.specs.declared.mail_fault.MailKind.TheVariants.{BadByte, NoCommand, BadNumber}
+use Rattle.script_files.specs.declared.mail_fault.MailKind.TheVariants.{BadByte, BadNumber}
+use Rattle.script_files.specs.declared.mail_fault.MailKind.TheVariants.{NoCommand}
 use Rattle.script_files.specs.declared.mail_fault.MailKind.TheVariants.{Extra}
 
 -- a number that fits a value

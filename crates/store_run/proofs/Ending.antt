@@ -55,7 +55,8 @@ pub closing : (o : Options) (scripts : List (Vec Command Global)) (h : Shape)
     (limits : ClientLimits) (logs : List ClientLog) (lists : List (List Command))
     (v : View Pass) → h ≡ shape_of o (length scripts) → 1 ≤ length scripts → IsWithin o
     → limits ≡ client_limits o
-    → AreTaken (store_limits limits) h.cells (places_for limits.minor) (length scripts) logs v.places
+    → AreTaken (store_limits limits) h.cells (places_for limits.minor) (length scripts) logs
+    v.places
     → length lists ≡ length scripts
     → AtClose o (length lists) (length lists) logs v
 closing o scripts h limits logs lists v shape least within limits_are taken many =

@@ -1,6 +1,6 @@
-//! A gate that lets the commands of two clients begin in an order of its own.
+//! Gates that let the commands of two clients begin in an order of their own.
 use outside::{CrossGate, Gate};
-use std::sync::atomic::{AtomicBool, AtomicU32, Ordering};
+use std::sync::atomic::{AtomicBool, AtomicU32, AtomicU64, Ordering};
 
 /// As many looks as no thread needs before it begins.
 const LOOKS: u64 = 1_000_000_000;
@@ -114,5 +114,54 @@ impl Gate for OrderGate {
         let next = calls.next.fetch_add(1, Ordering::SeqCst);
         let begun = calls.begun.load(Ordering::SeqCst);
         self.note(next == number && begun == number);
+    }
+}
+
+/// More turns than a client needs that goes on while another one is kept waiting.
+const TURNS: u64 = 10_000_000;
+
+/// A gate that holds one command of client 2 until the last one of client 1 has its reply, and the
+/// command of client 1 with the same number until the held one was sent away. Who is sent away too
+/// often goes on, and was late.
+#[derive(Drop)]
+pub(crate) struct LastGate {
+    held: u32,
+    last: u32,
+    is_done: AtomicBool,
+    first: AtomicU64,
+    second: AtomicU64,
+}
+
+impl LastGate {
+    /// A gate that was not asked yet, for these numbers of commands.
+    pub(crate) fn new(held: u32, last: u32) -> LastGate {
+        LastGate {
+            held,
+            last,
+            is_done: AtomicBool::new(false),
+            first: AtomicU64::new(0),
+            second: AtomicU64::new(0),
+        }
+    }
+
+    /// Whether one of the two went on before the other.
+    pub(crate) fn late(&self) -> bool {
+        TURNS < self.first.load(Ordering::SeqCst) || TURNS < self.second.load(Ordering::SeqCst)
+    }
+}
+
+impl Gate for LastGate {
+    fn go(&self, client: u32, number: u32) -> bool {
+        let (due, away) = match client {
+            1 => (0 < self.second.load(Ordering::SeqCst), &self.first),
+            _ => (self.is_done.load(Ordering::SeqCst), &self.second),
+        };
+        number != self.held || due || TURNS <= away.fetch_add(1, Ordering::SeqCst)
+    }
+
+    fn done(&self, client: u32, number: u32) {
+        if client == 1 && number == self.last {
+            self.is_done.store(true, Ordering::SeqCst);
+        }
     }
 }

@@ -42,3 +42,17 @@ pub(crate) fn alike(alloc: Global, clients: u32, text: &[u8]) -> Result<Vec<Vec<
     }
     Ok(scripts)
 }
+
+/// The scripts of texts.
+pub(crate) fn scripts_of(alloc: Global, texts: &[&[u8]]) -> Result<Vec<Vec<Command>>, Fail>
+    ensures many { IfOk result (λ scripts. length scripts.items ≡ length texts.now) }
+    ensures short { IfOk result (λ scripts.
+        All (λ script. length script.items ≤ 100_000) scripts.items) }
+{
+    let mut scripts = Vec::new(alloc);
+    for place in 0..texts.len() {
+        let script = script_of(alloc, texts[place])?;
+        scripts.push(script)?;
+    }
+    Ok(scripts)
+}

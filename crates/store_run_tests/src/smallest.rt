@@ -3,9 +3,10 @@
 ghost use Rattle.std.specs.Prelude.{◌≤◌};
 
 use crate::counting::run_of;
+use crate::gates::LastGate;
 use crate::scripts::repeated;
 use doc_model::{Entry, Totals, is_legal, merge};
-use outside::{Gate, HoldGate, OpenGate};
+use outside::{Gate, OpenGate};
 use std::alloc::Global;
 use std::sync::Wait;
 use std::test::Fail;
@@ -13,9 +14,6 @@ use std::thread::Threads;
 
 /// More cycles than a run makes.
 const CYCLES: u32 = 4_000_000_000;
-
-/// How often the held command is sent away.
-const TURNS: u64 = 100_000;
 
 /// Whether some reply says that the heap was full.
 fn has_full(entries: &[Entry]) -> bool {
@@ -32,7 +30,7 @@ fn agree(totals: Totals, full: bool) -> bool {
 }
 
 /// How many commands of such a run were answered, whether its history is legal, and whether its
-/// totals agree.
+/// totals agree; and whether some reply is `full`.
 fn puts_at<R: Threads + Wait + Sync, G: Gate + Sync>(
     alloc: Global,
     rt: &R,
@@ -40,7 +38,7 @@ fn puts_at<R: Threads + Wait + Sync, G: Gate + Sync>(
     puts: u32,
     cycles: u32,
     gate: &G,
-) -> Result<(usize, bool, bool), Fail>
+) -> Result<((usize, bool, bool), bool), Fail>
     requires clients { (1 ≤ clients) × (clients ≤ 64) }
     requires cycles { cycles ≤ 4_000_000_000 }
 {
@@ -48,45 +46,42 @@ fn puts_at<R: Threads + Wait + Sync, G: Gate + Sync>(
     let finished = run_of(alloc, rt, clients, &text, cycles, gate)?;
     let merged = merge(alloc, &finished.logs)?;
     let legal = merged.len() <= 100_000 && is_legal(alloc, &merged, clients, 1, 1_000_000)?;
-    Ok((
-        merged.len(),
-        legal,
-        agree(finished.totals, has_full(&merged)),
-    ))
+    let full = has_full(&merged);
+    Ok(((merged.len(), legal, agree(finished.totals, full)), full))
 }
 
 #[test]
 fn a_heap_without_a_cycle_is_full_lawfully(rt: HostRuntime) -> Result<(), Fail> {
     assert_eq!(rt;
         puts_at(rt.alloc(), &rt, 1, 13, 0, &OpenGate)?,
-        (13, true, true)
+        ((13, true, true), true)
     );
     Ok(())
 }
 
 #[test]
 fn one_cycle_is_enough_for_a_lawful_answer(rt: HostRuntime) -> Result<(), Fail> {
-    assert_eq!(rt;
-        puts_at(rt.alloc(), &rt, 1, 13, 1, &OpenGate)?,
-        (13, true, true)
-    );
+    let (found, _full) = puts_at(rt.alloc(), &rt, 1, 13, 1, &OpenGate)?;
+    assert_eq!(rt; found, (13, true, true));
     Ok(())
 }
 
-/// The same for two clients of which the second is held at its hundredth command; and whether it
-/// was sent away as often as the gate says.
+/// The same for two clients of which the second is held at its hundredth command while the first has
+/// the last half of its own; and whether it began before these were done.
 fn held<R: Threads + Wait + Sync>(
     alloc: Global,
     rt: &R,
-) -> Result<((usize, bool, bool), bool), Fail> {
-    let gate = HoldGate::new(2, 100, TURNS);
+) -> Result<(((usize, bool, bool), bool), bool), Fail> {
+    let gate = LastGate::new(100, 200);
     let shown = puts_at(alloc, rt, 2, 200, CYCLES, &gate)?;
-    Ok((shown, TURNS < gate.asked()))
+    Ok((shown, gate.late()))
 }
 
-// The first client's cells are freed only where the held one answers handshakes.
+// While the second client is held, the first needs cells that are freed only where the held one
+// answers handshakes: else the first waits for them until the gate lets go too early. Two versions
+// leave most of the heap free, so nobody finds it full.
 #[test]
 fn a_client_that_is_held_answers_handshakes(rt: HostRuntime) -> Result<(), Fail> {
-    assert_eq!(rt; held(rt.alloc(), &rt)?, ((400, true, true), true));
+    assert_eq!(rt; held(rt.alloc(), &rt)?, (((400, true, true), false), false));
     Ok(())
 }

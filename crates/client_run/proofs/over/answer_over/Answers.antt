@@ -15,7 +15,7 @@ returns-clause-unanswered g c =
 
 pub returns-clause-same : goal.returns-clause-same
 returns-clause-same g c =
-    let bound = g.M.DocumentSeat.bound in
+    let bound = g.M.ClientSeat.bound in
     let lent = c.answer-answered.ensures.lent in
     let same = same_identity (bound c.new-heap.result.m.now)
     (bound c.answer-answered.new.heap.m.now) (ap (λ (l : Lent). l.mutator) lent) in

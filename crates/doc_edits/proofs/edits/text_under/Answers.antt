@@ -1,22 +1,27 @@
 use Rattle.doc_edits.proofs.Along.{text_node}
-use Rattle.std.proofs.Common.{ap, arith, length}
+use Rattle.std.proofs.Common.{ap, arith, length, rules, tests}
 use Rattle.doc_edits.proofs.Along.{text_few}
 use Rattle.doc_edits.proofs.Standing.{later_then}
 use Rattle.doc_edits.proofs.edits.text_under.Goals as goal
 
-pub returns-in-None-clause-tree : goal.returns-in-None-clause-tree
-returns-in-None-clause-tree g c =
+pub returns-in-None : goal.returns-in-None
+returns-in-None g c =
     let spells =
     text_node _ _ _ _ c.bytes-bytes.ensures.bytes c.make_text-written.ensures.text
     c.bytes-bytes.ensures.text c.make.ensures.term in
-    rw c.in-None.is spells.tree
-
-pub returns-in-None-clause-node : goal.returns-in-None-clause-node
-returns-in-None-clause-node g c =
-    let spells =
-    text_node _ _ _ _ c.bytes-bytes.ensures.bytes c.make_text-written.ensures.text
-    c.bytes-bytes.ensures.text c.make.ensures.term in
-    record { stands = c.make.ensures.stands; node = spells.node }
+    record {
+      node = record { stands = c.make.ensures.stands; node = spells.node };
+      tree = rw c.in-None.is spells.tree;
+      later = later_then c.make_text-written.ensures.later c.make.ensures.later;
+      held = search (arith, rules, tests);
+      records = omega (
+        arith,
+        ap length c.bytes-bytes.ensures.bytes,
+        text_few c.args.text.now c.bytes-bytes.ensures.text,
+        c.make_text-written.ensures.records,
+        c.make.ensures.records,
+      );
+    }
 
 pub with_text-requires-clause-stands : goal.with_text-requires-clause-stands
 with_text-requires-clause-stands g c =
@@ -74,18 +79,4 @@ make-requires-clause-records g c =
       text_few c.args.text.now c.bytes-bytes.ensures.text,
       c.make_text-written.ensures.records,
       c.requires.records,
-    )
-
-pub returns-in-None-clause-later : goal.returns-in-None-clause-later
-returns-in-None-clause-later g c =
-    later_then c.make_text-written.ensures.later c.make.ensures.later
-
-pub returns-in-None-clause-records : goal.returns-in-None-clause-records
-returns-in-None-clause-records g c =
-    omega (
-      arith,
-      ap length c.bytes-bytes.ensures.bytes,
-      text_few c.args.text.now c.bytes-bytes.ensures.text,
-      c.make_text-written.ensures.records,
-      c.make.ensures.records,
     )

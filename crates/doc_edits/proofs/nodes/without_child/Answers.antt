@@ -1,4 +1,4 @@
-use Rattle.std.proofs.Common.{ap, ◌∙◌, refl, arith, Some, subst, sym}
+use Rattle.std.proofs.Common.{ap, ◌∙◌, refl, arith, Some, subst, sym, rules, tests}
 use Rattle.doc_tree.specs.Edits.{delete_child}
 use Rattle.doc_tree.specs.Tree.{DocTree, height_below}
 use Rattle.doc_tree.proofs.Sizes.{delete_lower}
@@ -18,44 +18,41 @@ pub open-node-requires-clause-top : goal.open-node-requires-clause-top
 open-node-requires-clause-top g c =
     top_still _ _ (Some c.args.at) c.change_of-change.ensures.later c.requires.node
 
-pub make_node-requires-clause-written : goal.make_node-requires-clause-written
-make_node-requires-clause-written g c =
-    part_still _ _ c.open-node.result.text c.without_entry-entries.ensures.later
-    c.open-node.ensures.written
-
-pub make_node-requires-clause-is_text : goal.make_node-requires-clause-is_text
-make_node-requires-clause-is_text g c =
-    subst IsText
-    (sym (part_same _ _ c.open-node.result.text c.without_entry-entries.ensures.later
-    c.open-node.ensures.written)) c.open-node.ensures.is_text
-
-pub make_node-requires-clause-change : goal.make_node-requires-clause-change
-make_node-requires-clause-change g c =
-    let s0 = g.R.RecordPool.shown c.args.records.now in
-    let s1 = g.R.RecordPool.shown c.change_of-change.new.records in
+pub make_node-requires : goal.make_node-requires
+make_node-requires g c =
     let s2 = g.R.RecordPool.shown c.open-node.new.records in
     let first = c.change_of-change.ensures.later in
-    let few = c.requires.node.node.lawful.few in
-    delete_changes c.change_of-change.result c.args.name.now (tree_of (s0.term c.args.at)) _ _
-    (row_of s2 c.open-node.result.entries) _ c.change_of-change.ensures.change c.requires.there
-    refl
-    (c.open-node.ensures.kids
-    ∙ ap (λ (t : DocTree). t.kids) (top_same s0 s1 (Some c.args.at) first c.requires.node))
-    c.without_entry-entries.ensures.kids (omega (arith, few))
-
-pub make_node-requires-clause-low : goal.make_node-requires-clause-low
-make_node-requires-clause-low g c =
-    let s2 = g.R.RecordPool.shown c.open-node.new.records in
-    let first = c.change_of-change.ensures.later in
-    let kids = c.open-node.ensures.kids
-    ∙ ap (λ (t : DocTree). t.kids) (top_same _ _ (Some c.args.at) first c.requires.node) in
-    omega (
-      arith,
-      ap height_below c.without_entry-entries.ensures.kids,
-      delete_lower c.args.name.now (row_of s2 c.open-node.result.entries),
-      ap height_below kids,
-      c.requires.node.node.lawful.low,
-    )
+    record {
+      written = part_still _ _ c.open-node.result.text c.without_entry-entries.ensures.later
+          c.open-node.ensures.written;
+      is_text = subst IsText
+          (sym (part_same _ _ c.open-node.result.text c.without_entry-entries.ensures.later
+          c.open-node.ensures.written)) c.open-node.ensures.is_text;
+      row = search (arith, rules, tests);
+      change =
+          let s0 = g.R.RecordPool.shown c.args.records.now in
+          let s1 = g.R.RecordPool.shown c.change_of-change.new.records in
+          let few = c.requires.node.node.lawful.few in
+          delete_changes c.change_of-change.result c.args.name.now (tree_of (s0.term c.args.at)) _ _
+          (row_of s2 c.open-node.result.entries) _ c.change_of-change.ensures.change
+          c.requires.there
+          refl
+          (c.open-node.ensures.kids
+          ∙ ap (λ (t : DocTree). t.kids) (top_same s0 s1 (Some c.args.at) first c.requires.node))
+          c.without_entry-entries.ensures.kids (omega (arith, few));
+      low =
+          let kids = c.open-node.ensures.kids
+          ∙ ap (λ (t : DocTree). t.kids) (top_same _ _ (Some c.args.at) first c.requires.node) in
+          omega (
+            arith,
+            ap height_below c.without_entry-entries.ensures.kids,
+            delete_lower c.args.name.now (row_of s2 c.open-node.result.entries),
+            ap height_below kids,
+            c.requires.node.node.lawful.low,
+          );
+      places = search (arith, rules, tests);
+      records = search (arith, rules, tests);
+    }
 
 pub returns-clause-tree : goal.returns-clause-tree
 returns-clause-tree g c =

@@ -1,5 +1,5 @@
 use Rattle.std.proofs.Common.{◌≡◌, ◌∙◌, ◌-◌, ◌≤◌, List, [], ◌∷◌, length, take, drop, get_or}
-use Rattle.std.proofs.Common.{Err, Ok, Some, ap, arith, refl, rules, subst, sym, ℕ}
+use Rattle.std.proofs.Common.{Err, Ok, Some, ap, arith, refl, rules, subst, sym, ℕ, tests}
 use Rattle.std.proofs.lemmas.Bool.{eqb-false, eqb-true}
 use Rattle.cell_words.specs.Term.{Term}
 use Rattle.doc_tree.specs.declared.edit.EditFault.{EditFault}
@@ -77,237 +77,169 @@ delete_along-requires g t c κs within =
       ),
     )
 
-pub with_child-requires-clause-few : goal.with_child-requires-clause-few
-with_child-requires-clause-few g t c =
+pub with_child-requires : goal.with_child-requires
+with_child-requires g t c =
     let s = g.R.RecordPool.shown c.find_child.new.records in
     let child = c.in-Some.child in
+    let s1 = g.R.RecordPool.shown c.find_child.new.records in
+    let s2 = g.R.RecordPool.shown c.delete_along.new.records in
     let found =
-    tree_child s _ _ child c.requires.root.node.lawful (c.in-Some.ensures.stands child refl)
+    tree_child s1 _ _ child c.requires.root.node.lawful (c.in-Some.ensures.stands child refl)
     c.in-Some.ensures.child in
-    deleted_few _ _ _ c.in_ok-edited.ensures.tree found.node.lawful
+    let s0 = g.R.RecordPool.shown c.args.records.now in
+    let first = c.find_child.ensures.later in
+    let second = c.delete_along.ensures.later in
+    let kept = top_same s1 s2 (Some c.args.at) second
+    (top_still s0 s1 (Some c.args.at) first c.requires.root)
+    ∙ top_same s0 s1 (Some c.args.at) first c.requires.root in
+    let there = child_same s1 s2 (Some child) second found ∙ c.in-Some.ensures.child
+    ∙ ap (λ (u : DocTree). child_of_name c.name-item.result u.kids) (sym kept) in
+    record {
+      top = top_still s1 s2 (Some c.args.at) c.delete_along.ensures.later
+          (top_still _ s1 (Some c.args.at) c.find_child.ensures.later c.requires.root);
+      was = top_nodes _ (Some child)
+          (top_still s1 _ (Some child) c.delete_along.ensures.later found);
+      there = there;
+      child = c.in_ok-edited.ensures.node c.in_ok-edited.edited refl;
+      few =
+          let found =
+          tree_child s _ _ child c.requires.root.node.lawful (c.in-Some.ensures.stands child refl)
+          c.in-Some.ensures.child in
+          deleted_few _ _ _ c.in_ok-edited.ensures.tree found.node.lawful;
+      low =
+          let found =
+          tree_child s _ _ child c.requires.root.node.lawful (c.in-Some.ensures.stands child refl)
+          c.in-Some.ensures.child in
+          deleted_low _ _ _ c.in_ok-edited.ensures.tree found.node.lawful;
+      room = λ none. absurd (cc (there ∙ none));
+      places = omega (
+        arith,
+        rest_less c.args.names.now c.in-len1-up.len_at_least,
+        c.requires.places,
+        c.find_child.ensures.held,
+        c.find_child.ensures.later.room,
+        c.delete_along.ensures.held,
+        c.delete_along.ensures.later.room,
+      );
+      records = omega (
+        arith,
+        rest_less c.args.names.now c.in-len1-up.len_at_least,
+        c.requires.records,
+        c.find_child.ensures.records,
+        c.delete_along.ensures.records,
+      );
+    }
 
-pub with_child-requires-clause-low : goal.with_child-requires-clause-low
-with_child-requires-clause-low g t c =
-    let s = g.R.RecordPool.shown c.find_child.new.records in
-    let child = c.in-Some.child in
-    let found =
-    tree_child s _ _ child c.requires.root.node.lawful (c.in-Some.ensures.stands child refl)
-    c.in-Some.ensures.child in
-    deleted_low _ _ _ c.in_ok-edited.ensures.tree found.node.lawful
-
-pub returns-then-is_empty-clause-tree : goal.returns-then-is_empty-clause-tree
-returns-then-is_empty-clause-tree g t c =
-    let at = tree_of ((g.R.RecordPool.shown c.args.records.now).term c.args.at) in
-    let one = delete_one c.args.names.now c.name-item.result at _ c.in-len1-up.len_at_least
-    c.name-item.is (eqb-true _ _ (sym c.is_empty.ensures ∙ c.if-is_empty.true))
-    c.in-Some.ensures.child in
-    cc (one, c.find_child.ensures.later.same c.args.at c.requires.root.stands)
+pub returns-then-is_empty : goal.returns-then-is_empty
+returns-then-is_empty g t c =
+    record {
+      tree =
+          let at = tree_of ((g.R.RecordPool.shown c.args.records.now).term c.args.at) in
+          let one = delete_one c.args.names.now c.name-item.result at _ c.in-len1-up.len_at_least
+          c.name-item.is (eqb-true _ _ (sym c.is_empty.ensures ∙ c.if-is_empty.true))
+          c.in-Some.ensures.child in
+          cc (one, c.find_child.ensures.later.same c.args.at c.requires.root.stands);
+      node = ok_node _ _ _ refl c.without_child.ensures.node;
+      later = later_then c.find_child.ensures.later c.without_child.ensures.later;
+      held = omega (
+        arith,
+        c.in-len1-up.len_at_least,
+        c.find_child.ensures.held,
+        c.without_child.ensures.held,
+      );
+      records = omega (
+        arith,
+        c.in-len1-up.len_at_least,
+        c.find_child.ensures.records,
+        c.without_child.ensures.records,
+      );
+    }
 
 pub find_child-requires-clause-places : goal.find_child-requires-clause-places
 find_child-requires-clause-places g t c =
     omega (arith, c.in-len1-up.len_at_least, c.requires.places)
 
-pub without_child-requires-clause-node : goal.without_child-requires-clause-node
-without_child-requires-clause-node g t c =
-    top_still _ _ (Some c.args.at) c.find_child.ensures.later c.requires.root
+pub without_child-requires : goal.without_child-requires
+without_child-requires g t c =
+    record {
+      node = top_still _ _ (Some c.args.at) c.find_child.ensures.later c.requires.root;
+      was = c.in-Some.ensures.stands c.in-Some.child refl;
+      there = c.in-Some.ensures.child
+          ∙ ap (λ (u : Term). child_of_name c.name-item.result (tree_of u).kids)
+          (sym (c.find_child.ensures.later.same c.args.at c.requires.root.stands));
+      places = omega (
+        arith,
+        c.in-len1-up.len_at_least,
+        c.requires.places,
+        c.find_child.ensures.held,
+        c.find_child.ensures.later.room,
+      );
+      records =
+          omega (
+            arith,
+            c.in-len1-up.len_at_least,
+            c.requires.records,
+            c.find_child.ensures.records,
+          );
+    }
 
-pub without_child-requires-clause-was : goal.without_child-requires-clause-was
-without_child-requires-clause-was g t c = c.in-Some.ensures.stands c.in-Some.child refl
+pub returns-in_err-edited : goal.returns-in_err-edited
+returns-in_err-edited g t c =
+    record {
+      tree =
+          let s0 = g.R.RecordPool.shown c.args.records.now in
+          let s1 = g.R.RecordPool.shown c.find_child.new.records in
+          let fault = c.in_err-edited.field-0.0 in
+          let refused : Err fault ≡ delete c.args.names.now (tree_of (s0.term c.args.at)) =
+          delete_off c.args.names.now c.name-item.result (tree_of (s0.term c.args.at))
+          (tree_of (s1.term c.in-Some.child)) fault c.in-len1-up.len_at_least c.name-item.is
+          (eqb-false _ _ (sym c.is_empty.ensures ∙ c.if-is_empty.false)) c.in-Some.ensures.child
+          c.in_err-edited.ensures.tree in
+          search (rules, refused);
+      node = search (arith, rules, tests);
+      later = later_then c.find_child.ensures.later c.delete_along.ensures.later;
+      held = omega (
+        arith,
+        rest_less c.args.names.now c.in-len1-up.len_at_least,
+        c.find_child.ensures.held,
+        c.delete_along.ensures.held,
+      );
+      records = omega (
+        arith,
+        rest_less c.args.names.now c.in-len1-up.len_at_least,
+        c.find_child.ensures.records,
+        c.delete_along.ensures.records,
+      );
+    }
 
-pub without_child-requires-clause-there : goal.without_child-requires-clause-there
-without_child-requires-clause-there g t c =
-    c.in-Some.ensures.child
-    ∙ ap (λ (u : Term). child_of_name c.name-item.result (tree_of u).kids)
-    (sym (c.find_child.ensures.later.same c.args.at c.requires.root.stands))
-
-pub without_child-requires-clause-places : goal.without_child-requires-clause-places
-without_child-requires-clause-places g t c =
-    omega (
-      arith,
-      c.in-len1-up.len_at_least,
-      c.requires.places,
-      c.find_child.ensures.held,
-      c.find_child.ensures.later.room,
-    )
-
-pub without_child-requires-clause-records : goal.without_child-requires-clause-records
-without_child-requires-clause-records g t c =
-    omega (arith, c.in-len1-up.len_at_least, c.requires.records, c.find_child.ensures.records)
-
-pub returns-then-is_empty-clause-node : goal.returns-then-is_empty-clause-node
-returns-then-is_empty-clause-node g t c = ok_node _ _ _ refl c.without_child.ensures.node
-
-pub returns-then-is_empty-clause-later : goal.returns-then-is_empty-clause-later
-returns-then-is_empty-clause-later g t c =
-    later_then c.find_child.ensures.later c.without_child.ensures.later
-
-pub returns-then-is_empty-clause-held : goal.returns-then-is_empty-clause-held
-returns-then-is_empty-clause-held g t c =
-    omega (
-      arith,
-      c.in-len1-up.len_at_least,
-      c.find_child.ensures.held,
-      c.without_child.ensures.held,
-    )
-
-pub returns-then-is_empty-clause-records : goal.returns-then-is_empty-clause-records
-returns-then-is_empty-clause-records g t c =
-    omega (
-      arith,
-      c.in-len1-up.len_at_least,
-      c.find_child.ensures.records,
-      c.without_child.ensures.records,
-    )
-
-pub returns-in_err-edited-clause-tree : goal.returns-in_err-edited-clause-tree
-returns-in_err-edited-clause-tree g t c =
-    let s0 = g.R.RecordPool.shown c.args.records.now in
-    let s1 = g.R.RecordPool.shown c.find_child.new.records in
-    let fault = c.in_err-edited.field-0.0 in
-    let refused : Err fault ≡ delete c.args.names.now (tree_of (s0.term c.args.at)) =
-    delete_off c.args.names.now c.name-item.result (tree_of (s0.term c.args.at))
-    (tree_of (s1.term c.in-Some.child)) fault c.in-len1-up.len_at_least c.name-item.is
-    (eqb-false _ _ (sym c.is_empty.ensures ∙ c.if-is_empty.false)) c.in-Some.ensures.child
-    c.in_err-edited.ensures.tree in
-    search (rules, refused)
-
-pub returns-in_err-edited-clause-later : goal.returns-in_err-edited-clause-later
-returns-in_err-edited-clause-later g t c =
-    later_then c.find_child.ensures.later c.delete_along.ensures.later
-
-pub returns-in_err-edited-clause-held : goal.returns-in_err-edited-clause-held
-returns-in_err-edited-clause-held g t c =
-    omega (
-      arith,
-      rest_less c.args.names.now c.in-len1-up.len_at_least,
-      c.find_child.ensures.held,
-      c.delete_along.ensures.held,
-    )
-
-pub returns-in_err-edited-clause-records : goal.returns-in_err-edited-clause-records
-returns-in_err-edited-clause-records g t c =
-    omega (
-      arith,
-      rest_less c.args.names.now c.in-len1-up.len_at_least,
-      c.find_child.ensures.records,
-      c.delete_along.ensures.records,
-    )
-
-pub with_child-requires-clause-top : goal.with_child-requires-clause-top
-with_child-requires-clause-top g t c =
-    let s1 = g.R.RecordPool.shown c.find_child.new.records in
-    let s2 = g.R.RecordPool.shown c.delete_along.new.records in
-    top_still s1 s2 (Some c.args.at) c.delete_along.ensures.later
-    (top_still _ s1 (Some c.args.at) c.find_child.ensures.later c.requires.root)
-
-pub with_child-requires-clause-was : goal.with_child-requires-clause-was
-with_child-requires-clause-was g t c =
-    let s1 = g.R.RecordPool.shown c.find_child.new.records in
-    let child = c.in-Some.child in
-    let found =
-    tree_child s1 _ _ child c.requires.root.node.lawful (c.in-Some.ensures.stands child refl)
-    c.in-Some.ensures.child in
-    top_nodes _ (Some child)
-    (top_still s1 _ (Some child) c.delete_along.ensures.later found)
-
-pub with_child-requires-clause-there : goal.with_child-requires-clause-there
-with_child-requires-clause-there g t c =
-    let s1 = g.R.RecordPool.shown c.find_child.new.records in
-    let child = c.in-Some.child in
-    let found =
-    tree_child s1 _ _ child c.requires.root.node.lawful (c.in-Some.ensures.stands child refl)
-    c.in-Some.ensures.child in
-    let s0 = g.R.RecordPool.shown c.args.records.now in
-    let s2 = g.R.RecordPool.shown c.delete_along.new.records in
-    let first = c.find_child.ensures.later in
-    let second = c.delete_along.ensures.later in
-    let kept = top_same s1 s2 (Some c.args.at) second
-    (top_still s0 s1 (Some c.args.at) first c.requires.root)
-    ∙ top_same s0 s1 (Some c.args.at) first c.requires.root in
-    let there = child_same s1 s2 (Some child) second found ∙ c.in-Some.ensures.child
-    ∙ ap (λ (u : DocTree). child_of_name c.name-item.result u.kids) (sym kept) in
-    there
-
-pub with_child-requires-clause-room : goal.with_child-requires-clause-room
-with_child-requires-clause-room g t c =
-    let s1 = g.R.RecordPool.shown c.find_child.new.records in
-    let child = c.in-Some.child in
-    let found =
-    tree_child s1 _ _ child c.requires.root.node.lawful (c.in-Some.ensures.stands child refl)
-    c.in-Some.ensures.child in
-    let s0 = g.R.RecordPool.shown c.args.records.now in
-    let s2 = g.R.RecordPool.shown c.delete_along.new.records in
-    let first = c.find_child.ensures.later in
-    let second = c.delete_along.ensures.later in
-    let kept = top_same s1 s2 (Some c.args.at) second
-    (top_still s0 s1 (Some c.args.at) first c.requires.root)
-    ∙ top_same s0 s1 (Some c.args.at) first c.requires.root in
-    let there = child_same s1 s2 (Some child) second found ∙ c.in-Some.ensures.child
-    ∙ ap (λ (u : DocTree). child_of_name c.name-item.result u.kids) (sym kept) in
-    λ none. absurd (cc (there ∙ none))
-
-pub with_child-requires-clause-child : goal.with_child-requires-clause-child
-with_child-requires-clause-child g t c =
-    c.in_ok-edited.ensures.node c.in_ok-edited.edited refl
-
-pub with_child-requires-clause-places : goal.with_child-requires-clause-places
-with_child-requires-clause-places g t c =
-    omega (
-      arith,
-      rest_less c.args.names.now c.in-len1-up.len_at_least,
-      c.requires.places,
-      c.find_child.ensures.held,
-      c.find_child.ensures.later.room,
-      c.delete_along.ensures.held,
-      c.delete_along.ensures.later.room,
-    )
-
-pub with_child-requires-clause-records : goal.with_child-requires-clause-records
-with_child-requires-clause-records g t c =
-    omega (
-      arith,
-      rest_less c.args.names.now c.in-len1-up.len_at_least,
-      c.requires.records,
-      c.find_child.ensures.records,
-      c.delete_along.ensures.records,
-    )
-
-pub returns-clause-tree : goal.returns-clause-tree
-returns-clause-tree g t c =
-    let s1 = g.R.RecordPool.shown c.find_child.new.records in
-    let kept =
-    top_same s1 _ (Some c.args.at) c.delete_along.ensures.later
-    (top_still _ s1 (Some c.args.at) c.find_child.ensures.later c.requires.root)
-    ∙ top_same _ s1 (Some c.args.at) c.find_child.ensures.later c.requires.root in
-    delete_on c.args.names.now c.name-item.result _ _ (tree_of (s1.term c.in-Some.child)) _ _
-    c.in-len1-up.len_at_least c.name-item.is
-    (eqb-false _ _ (sym c.is_empty.ensures ∙ c.if-is_empty.false)) c.in-Some.ensures.child
-    c.in_ok-edited.ensures.tree kept c.with_child.ensures.tree
-
-pub returns-clause-node : goal.returns-clause-node
-returns-clause-node g t c = ok_node _ _ _ refl c.with_child.ensures.node
-
-pub returns-clause-later : goal.returns-clause-later
-returns-clause-later g t c =
-    later_then (later_then c.find_child.ensures.later c.delete_along.ensures.later)
-    c.with_child.ensures.later
-
-pub returns-clause-held : goal.returns-clause-held
-returns-clause-held g t c =
-    omega (
-      arith,
-      rest_less c.args.names.now c.in-len1-up.len_at_least,
-      c.find_child.ensures.held,
-      c.delete_along.ensures.held,
-      c.with_child.ensures.held,
-    )
-
-pub returns-clause-records : goal.returns-clause-records
-returns-clause-records g t c =
-    omega (
-      arith,
-      rest_less c.args.names.now c.in-len1-up.len_at_least,
-      c.find_child.ensures.records,
-      c.delete_along.ensures.records,
-      c.with_child.ensures.records,
-    )
+pub returns : goal.returns
+returns g t c =
+    record {
+      tree =
+          let s1 = g.R.RecordPool.shown c.find_child.new.records in
+          let kept =
+          top_same s1 _ (Some c.args.at) c.delete_along.ensures.later
+          (top_still _ s1 (Some c.args.at) c.find_child.ensures.later c.requires.root)
+          ∙ top_same _ s1 (Some c.args.at) c.find_child.ensures.later c.requires.root in
+          delete_on c.args.names.now c.name-item.result _ _ (tree_of (s1.term c.in-Some.child)) _ _
+          c.in-len1-up.len_at_least c.name-item.is
+          (eqb-false _ _ (sym c.is_empty.ensures ∙ c.if-is_empty.false)) c.in-Some.ensures.child
+          c.in_ok-edited.ensures.tree kept c.with_child.ensures.tree;
+      node = ok_node _ _ _ refl c.with_child.ensures.node;
+      later = later_then (later_then c.find_child.ensures.later c.delete_along.ensures.later)
+          c.with_child.ensures.later;
+      held = omega (
+        arith,
+        rest_less c.args.names.now c.in-len1-up.len_at_least,
+        c.find_child.ensures.held,
+        c.delete_along.ensures.held,
+        c.with_child.ensures.held,
+      );
+      records = omega (
+        arith,
+        rest_less c.args.names.now c.in-len1-up.len_at_least,
+        c.find_child.ensures.records,
+        c.delete_along.ensures.records,
+        c.with_child.ensures.records,
+      );
+    }

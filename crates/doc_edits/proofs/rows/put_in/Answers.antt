@@ -1,4 +1,5 @@
 use Rattle.std.proofs.Common.{◌≡◌, ◌<◌, ◌∙◌, None, ap, arith, subst, sym}
+use Rattle.doc_tree.specs.declared.tree.TheConstants.Tree.{MOST_CHILDREN}
 use Rattle.doc_tree.specs.Tree.{IsRising, Kids, child, kid_count, put_child}
 use Rattle.doc_records.specs.Trees.{tree_of}
 use Rattle.doc_edits.proofs.Pools.{kept_self, row_balanced, row_kids, row_stands}
@@ -33,7 +34,7 @@ put-requires-clause-child g c = record {
 pub put-requires-clause-room : goal.put-requires-clause-room
 put-requires-clause-room g c =
     subst
-    (λ (k : Kids). child c.args.name.now k ≡ None → kid_count k < 256)
+    (λ (k : Kids). child c.args.name.now k ≡ None → kid_count k < MOST_CHILDREN)
     (sym (row_kids g.R.RecordPool.shown c.args.pool.now c.args.top _ c.top_of.ensures))
     c.requires.room
 

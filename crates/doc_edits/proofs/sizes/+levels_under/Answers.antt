@@ -112,106 +112,121 @@ levels_under-after-requires g t c κs within =
       ),
     )
 
-pub returns-then-before-most-clause-levels : goal.returns-then-before-most-clause-levels
-returns-then-before-most-clause-levels g t c =
-    let at = c.in-Record.at in
-    let s0 = g.R.RecordPool.shown c.args.records.now in
-    let t0 = s0.term at in
-    let is = rw c.in-Record.is at c.requires.stands in
-    let most = rw c.in-Record.is at c.requires.most in
-    let e1 = c.entry_levels-own.ensures.later.same at is.0 in
-    let levels = side_high _ _ t0 2 c.read_part-left.ensures.part e1 in
-    let whole = entry_high t0 is.1 in
-    rw c.in-Record.is (omega (
-      arith,
-      whole,
-      levels,
-      most,
-      c.levels_under-before.ensures.levels,
-      c.if-before-most.true,
-    ))
-
-pub returns-clause-levels : goal.returns-clause-levels
-returns-clause-levels g t c =
+pub returns-then-before-most : goal.returns-then-before-most
+returns-then-before-most g t c =
     let at = c.in-Record.at in
     let s0 = g.R.RecordPool.shown c.args.records.now in
     let t0 = s0.term at in
     let is = rw c.in-Record.is at c.requires.stands in
     let e1 = c.entry_levels-own.ensures.later.same at is.0 in
-    let n1 = c.entry_levels-own.ensures.later.now at is.0 in
-    let e2 = c.read_part-left.ensures.later.same at n1 ∙ e1 in
-    let n2 = c.read_part-left.ensures.later.now at n1 in
-    let e3 = c.levels_under-before.ensures.later.same at n2 ∙ e2 in
-    let before = side_high _ _ t0 2 c.read_part-left.ensures.part e1 in
-    let after = side_high _ _ t0 3 c.read_part-right.ensures.part e3 in
-    let whole = entry_high t0 is.1 in
-    rw c.in-Record.is (omega (
-      arith,
-      whole,
-      before,
-      after,
-      c.entry_levels-own.ensures.levels,
-      c.levels_under-before.ensures.levels,
-      c.levels_under-after.ensures.levels,
-      c.max.ensures,
-      c.max-2.ensures,
-    ))
+    record {
+      levels =
+          let most = rw c.in-Record.is at c.requires.most in
+          let levels = side_high _ _ t0 2 c.read_part-left.ensures.part e1 in
+          let whole = entry_high t0 is.1 in
+          rw c.in-Record.is (omega (
+            arith,
+            whole,
+            levels,
+            most,
+            c.levels_under-before.ensures.levels,
+            c.if-before-most.true,
+          ));
+      later =
+          later_then (later_then c.entry_levels-own.ensures.later c.read_part-left.ensures.later)
+          c.levels_under-before.ensures.later;
+      held =
+          let whole : kid_count (row_of s0 c.args.top)
+          ≡ kid_count (kids_of (entries_of (part 2 t0))) + 1
+          + kid_count (kids_of (entries_of (part 3 t0))) =
+          rw c.in-Record.is (entry_count t0 is.1) in
+          let before = side_count _ _ t0 2 c.read_part-left.ensures.part e1 in
+          omega (
+            arith,
+            whole,
+            before,
+            c.entry_levels-own.ensures.held,
+            c.read_part-left.ensures.held,
+            place_one c.read_part-left.result,
+            c.levels_under-before.ensures.held,
+          );
+      records = c.levels_under-before.ensures.records ∙ c.read_part-left.ensures.records
+          ∙ c.entry_levels-own.ensures.records;
+    }
 
-pub returns-clause-held : goal.returns-clause-held
-returns-clause-held g t c =
+pub returns : goal.returns
+returns g t c =
     let at = c.in-Record.at in
     let s0 = g.R.RecordPool.shown c.args.records.now in
     let t0 = s0.term at in
     let is = rw c.in-Record.is at c.requires.stands in
-    let whole : kid_count (row_of s0 c.args.top)
-    ≡ kid_count (kids_of (entries_of (part 2 t0))) + 1
-    + kid_count (kids_of (entries_of (part 3 t0))) =
-    rw c.in-Record.is (entry_count t0 is.1) in
     let e1 = c.entry_levels-own.ensures.later.same at is.0 in
     let n1 = c.entry_levels-own.ensures.later.now at is.0 in
     let e2 = c.read_part-left.ensures.later.same at n1 ∙ e1 in
     let n2 = c.read_part-left.ensures.later.now at n1 in
     let e3 = c.levels_under-before.ensures.later.same at n2 ∙ e2 in
-    let before = side_count _ _ t0 2 c.read_part-left.ensures.part e1 in
-    let after = side_count _ _ t0 3 c.read_part-right.ensures.part e3 in
-    omega (
-      arith,
-      whole,
-      before,
-      after,
-      c.entry_levels-own.ensures.held,
-      c.read_part-left.ensures.held,
-      place_one c.read_part-left.result,
-      c.levels_under-before.ensures.held,
-      c.read_part-right.ensures.held,
-      place_one c.read_part-right.result,
-      c.levels_under-after.ensures.held,
-    )
+    record {
+      levels =
+          let before = side_high _ _ t0 2 c.read_part-left.ensures.part e1 in
+          let after = side_high _ _ t0 3 c.read_part-right.ensures.part e3 in
+          let whole = entry_high t0 is.1 in
+          rw c.in-Record.is (omega (
+            arith,
+            whole,
+            before,
+            after,
+            c.entry_levels-own.ensures.levels,
+            c.levels_under-before.ensures.levels,
+            c.levels_under-after.ensures.levels,
+            c.max.ensures,
+            c.max-2.ensures,
+          ));
+      later = later_then
+          (later_then (later_then c.entry_levels-own.ensures.later c.read_part-left.ensures.later)
+          c.levels_under-before.ensures.later)
+          (later_then c.read_part-right.ensures.later c.levels_under-after.ensures.later);
+      held =
+          let whole : kid_count (row_of s0 c.args.top)
+          ≡ kid_count (kids_of (entries_of (part 2 t0))) + 1
+          + kid_count (kids_of (entries_of (part 3 t0))) =
+          rw c.in-Record.is (entry_count t0 is.1) in
+          let before = side_count _ _ t0 2 c.read_part-left.ensures.part e1 in
+          let after = side_count _ _ t0 3 c.read_part-right.ensures.part e3 in
+          omega (
+            arith,
+            whole,
+            before,
+            after,
+            c.entry_levels-own.ensures.held,
+            c.read_part-left.ensures.held,
+            place_one c.read_part-left.result,
+            c.levels_under-before.ensures.held,
+            c.read_part-right.ensures.held,
+            place_one c.read_part-right.result,
+            c.levels_under-after.ensures.held,
+          );
+      records = c.levels_under-after.ensures.records ∙ c.read_part-right.ensures.records
+          ∙ c.levels_under-before.ensures.records ∙ c.read_part-left.ensures.records
+          ∙ c.entry_levels-own.ensures.records;
+    }
 
-pub entry_levels-own-requires-clause-stands : goal.entry_levels-own-requires-clause-stands
-entry_levels-own-requires-clause-stands g t c =
-    let is = rw c.in-Record.is at c.requires.stands in
-    is.0
-
-pub entry_levels-own-requires-clause-five : goal.entry_levels-own-requires-clause-five
-entry_levels-own-requires-clause-five g t c =
-    let is = rw c.in-Record.is at c.requires.stands in
-    is.1
-
-pub entry_levels-own-requires-clause-entry : goal.entry_levels-own-requires-clause-entry
-entry_levels-own-requires-clause-entry g t c = rw c.in-Record.is at c.requires.entries
-
-pub entry_levels-own-requires-clause-places : goal.entry_levels-own-requires-clause-places
-entry_levels-own-requires-clause-places g t c =
+pub entry_levels-own-requires : goal.entry_levels-own-requires
+entry_levels-own-requires g t c =
     let at = c.in-Record.at in
-    let s0 = g.R.RecordPool.shown c.args.records.now in
-    let t0 = s0.term at in
     let is = rw c.in-Record.is at c.requires.stands in
-    let whole : kid_count (row_of s0 c.args.top)
-    ≡ kid_count (kids_of (entries_of (part 2 t0))) + 1
-    + kid_count (kids_of (entries_of (part 3 t0))) =
-    rw c.in-Record.is (entry_count t0 is.1) in
-    omega (arith, whole, c.requires.places)
+    record {
+      stands = is.0;
+      five = is.1;
+      entry = rw c.in-Record.is at c.requires.entries;
+      places =
+          let s0 = g.R.RecordPool.shown c.args.records.now in
+          let t0 = s0.term at in
+          let whole : kid_count (row_of s0 c.args.top)
+          ≡ kid_count (kids_of (entries_of (part 2 t0))) + 1
+          + kid_count (kids_of (entries_of (part 3 t0))) =
+          rw c.in-Record.is (entry_count t0 is.1) in
+          omega (arith, whole, c.requires.places);
+    }
 
 pub returns-then-own-most-clause-levels : goal.returns-then-own-most-clause-levels
 returns-then-own-most-clause-levels g t c =
@@ -263,38 +278,6 @@ read_part-left-requires-clause-place g t c =
       c.entry_levels-own.ensures.later.room,
     )
 
-pub returns-then-before-most-clause-later : goal.returns-then-before-most-clause-later
-returns-then-before-most-clause-later g t c =
-    later_then (later_then c.entry_levels-own.ensures.later c.read_part-left.ensures.later)
-    c.levels_under-before.ensures.later
-
-pub returns-then-before-most-clause-held : goal.returns-then-before-most-clause-held
-returns-then-before-most-clause-held g t c =
-    let at = c.in-Record.at in
-    let s0 = g.R.RecordPool.shown c.args.records.now in
-    let t0 = s0.term at in
-    let is = rw c.in-Record.is at c.requires.stands in
-    let whole : kid_count (row_of s0 c.args.top)
-    ≡ kid_count (kids_of (entries_of (part 2 t0))) + 1
-    + kid_count (kids_of (entries_of (part 3 t0))) =
-    rw c.in-Record.is (entry_count t0 is.1) in
-    let e1 = c.entry_levels-own.ensures.later.same at is.0 in
-    let before = side_count _ _ t0 2 c.read_part-left.ensures.part e1 in
-    omega (
-      arith,
-      whole,
-      before,
-      c.entry_levels-own.ensures.held,
-      c.read_part-left.ensures.held,
-      place_one c.read_part-left.result,
-      c.levels_under-before.ensures.held,
-    )
-
-pub returns-then-before-most-clause-records : goal.returns-then-before-most-clause-records
-returns-then-before-most-clause-records g t c =
-    c.levels_under-before.ensures.records ∙ c.read_part-left.ensures.records
-    ∙ c.entry_levels-own.ensures.records
-
 pub read_part-right-requires-clause-stands : goal.read_part-right-requires-clause-stands
 read_part-right-requires-clause-stands g t c =
     let at = c.in-Record.at in
@@ -327,16 +310,3 @@ read_part-right-requires-clause-place g t c =
       c.levels_under-before.ensures.held,
       c.levels_under-before.ensures.later.room,
     )
-
-pub returns-clause-later : goal.returns-clause-later
-returns-clause-later g t c =
-    later_then
-    (later_then (later_then c.entry_levels-own.ensures.later c.read_part-left.ensures.later)
-    c.levels_under-before.ensures.later)
-    (later_then c.read_part-right.ensures.later c.levels_under-after.ensures.later)
-
-pub returns-clause-records : goal.returns-clause-records
-returns-clause-records g t c =
-    c.levels_under-after.ensures.records ∙ c.read_part-right.ensures.records
-    ∙ c.levels_under-before.ensures.records ∙ c.read_part-left.ensures.records
-    ∙ c.entry_levels-own.ensures.records

@@ -1,6 +1,6 @@
 use Rattle.std.proofs.Common.{arith}
 use Rattle.client_threads.proofs.Waiting.{waits_calm, waits_then}
-use Rattle.version_export.proofs.Looking.{looks_once}
+use Rattle.doc_export.proofs.Looking.{looks_once}
 use Rattle.doc_export.proofs.waiting.await_end.Goals as goal
 
 pub loop-look-preserved : goal.loop-look-preserved

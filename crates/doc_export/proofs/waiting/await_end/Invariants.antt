@@ -1,6 +1,6 @@
 use Rattle.std.proofs.Common.{◌+◌, ◌≤◌}
 use Rattle.client_threads.specs.Going.{Waits}
-use Rattle.version_export.specs.Looks.{looks}
+use Rattle.doc_export.specs.Looks.{looks}
 use Rattle.version_store.specs.Lasts.{marks}
 use Rattle.doc_export.proofs.waiting.await_end.Given as goal
 

@@ -1,4 +1,4 @@
-use Rattle.std.proofs.Common.{◌≡◌, ◌∙◌, Some, ap, arith, subst, sym, true}
+use Rattle.std.proofs.Common.{◌≡◌, ◌∙◌, Some, ap, arith, subst, sym, true, rules, tests}
 use Rattle.cell_words.specs.Term.{Term, part, IsFive}
 use Rattle.doc_records.specs.Pool.{IsOn, part_term}
 use Rattle.doc_records.specs.Trees.{AreEntries, tree_of}
@@ -14,25 +14,16 @@ loop-side-init g c =
     begun g.R.RecordPool.shared c.args.name.now (g.R.RecordPool.shown c.args.records.now)
     c.args.top c.requires.stands c.requires.entries c.requires.rising c.requires.places
 
-pub order_by_head-requires-clause-stands : goal.order_by_head-requires-clause-stands
-order_by_head-requires-clause-stands g c =
+pub order_by_head-requires : goal.order_by_head-requires
+order_by_head-requires g c =
     let far = at_record c.in-Record.is c.loop-side.invariant in
-    far.stands.0
-
-pub order_by_head-requires-clause-five : goal.order_by_head-requires-clause-five
-order_by_head-requires-clause-five g c =
-    let far = at_record c.in-Record.is c.loop-side.invariant in
-    far.stands.1
-
-pub order_by_head-requires-clause-entry : goal.order_by_head-requires-clause-entry
-order_by_head-requires-clause-entry g c =
-    let far = at_record c.in-Record.is c.loop-side.invariant in
-    far.entries
-
-pub order_by_head-requires-clause-places : goal.order_by_head-requires-clause-places
-order_by_head-requires-clause-places g c =
-    let far = at_record c.in-Record.is c.loop-side.invariant in
-    name_fits _ _ _ _ (left_low _ far.stands.1) far.places
+    record {
+      stands = far.stands.0;
+      five = far.stands.1;
+      entry = far.entries;
+      places = name_fits _ _ _ _ (left_low _ far.stands.1) far.places;
+      head = search (arith, rules, tests);
+    }
 
 pub read_part-side-requires-clause-stands : goal.read_part-side-requires-clause-stands
 read_part-side-requires-clause-stands g c =
@@ -106,68 +97,53 @@ loop-side-preserved g c =
     c.read_part-side-in-Greater.ensures.stands c.read_part-side-in-Greater.ensures.shared
     c.read_part-side-in-Greater.ensures.on
 
-pub entry_child-requires-clause-stands : goal.entry_child-requires-clause-stands
-entry_child-requires-clause-stands g c =
+pub entry_child-requires : goal.entry_child-requires
+entry_child-requires g c =
     let far = at_record c.in-Record.is c.loop-side.invariant in
-    c.order_by_head.ensures.later.now c.in-Record.at far.stands.0
+    record {
+      stands = c.order_by_head.ensures.later.now c.in-Record.at far.stands.0;
+      five = subst IsFive (sym (c.order_by_head.ensures.later.same c.in-Record.at far.stands.0))
+          far.stands.1;
+      entry =
+          subst AreEntries (sym (c.order_by_head.ensures.later.same c.in-Record.at far.stands.0))
+          far.entries;
+      places =
+          child_fits _ _ _ _ _ _ (left_low _ far.stands.1) far.places c.order_by_head.ensures.held
+          c.order_by_head.ensures.later.room;
+    }
 
-pub entry_child-requires-clause-five : goal.entry_child-requires-clause-five
-entry_child-requires-clause-five g c =
+pub returns-in-Equal : goal.returns-in-Equal
+returns-in-Equal g c =
     let far = at_record c.in-Record.is c.loop-side.invariant in
-    subst IsFive (sym (c.order_by_head.ensures.later.same c.in-Record.at far.stands.0))
-    far.stands.1
-
-pub entry_child-requires-clause-entry : goal.entry_child-requires-clause-entry
-entry_child-requires-clause-entry g c =
-    let far = at_record c.in-Record.is c.loop-side.invariant in
-    subst AreEntries (sym (c.order_by_head.ensures.later.same c.in-Record.at far.stands.0))
-    far.entries
-
-pub entry_child-requires-clause-places : goal.entry_child-requires-clause-places
-entry_child-requires-clause-places g c =
-    let far = at_record c.in-Record.is c.loop-side.invariant in
-    child_fits _ _ _ _ _ _ (left_low _ far.stands.1) far.places c.order_by_head.ensures.held
-    c.order_by_head.ensures.later.room
-
-pub returns-in-Equal-clause-child : goal.returns-in-Equal-clause-child
-returns-in-Equal-clause-child g c =
-    let far = at_record c.in-Record.is c.loop-side.invariant in
-    let same = c.order_by_head.ensures.later.same c.in-Record.at far.stands.0 in
-    ap (λ (u : Term). Some (tree_of u))
-    (c.entry_child.ensures.term ∙ ap (λ (u : Term). part 1 u) same)
-    ∙ sym
-    (find_equal _ _ far.stands.1 far.rising (sym c.order_by_head.ensures.order ∙ c.in-Equal.is))
-    ∙ far.child
-
-pub returns-in-Equal-clause-shared : goal.returns-in-Equal-clause-shared
-returns-in-Equal-clause-shared g c own =
-    let far = at_record c.in-Record.is c.loop-side.invariant in
-    some_is (λ a. g.R.RecordPool.shared a ≡ true) _ (c.entry_child.ensures.shared (far.shares own))
-
-pub returns-in-Equal-clause-on : goal.returns-in-Equal-clause-on
-returns-in-Equal-clause-on g c places low on =
-    let far = at_record c.in-Record.is c.loop-side.invariant in
-    let few = low_then far.later low in
-    some_is (IsOn g.R.RecordPool.shared (g.R.RecordPool.shown c.entry_child.new.records) places) _
-    (c.entry_child.ensures.on places (low_then c.order_by_head.ensures.later few)
-    (λ private.
-    c.order_by_head.ensures.later.still c.in-Record.at places (far.on places low on private) few))
-
-pub returns-in-Equal-clause-later : goal.returns-in-Equal-clause-later
-returns-in-Equal-clause-later g c =
-    later_then c.loop-side.invariant.later
-    (later_then c.order_by_head.ensures.later c.entry_child.ensures.later)
-
-pub returns-in-Equal-clause-held : goal.returns-in-Equal-clause-held
-returns-in-Equal-clause-held g c =
-    let far = at_record c.in-Record.is c.loop-side.invariant in
-    here_held _ _ _ _ _ _ (left_low _ far.stands.1) far.held c.order_by_head.ensures.held
-    c.entry_child.ensures.held
-
-pub returns-in-Equal-clause-records : goal.returns-in-Equal-clause-records
-returns-in-Equal-clause-records g c =
-    c.entry_child.ensures.records ∙ c.order_by_head.ensures.records
-    ∙ c.loop-side.invariant.records
+    record {
+      child =
+          let same = c.order_by_head.ensures.later.same c.in-Record.at far.stands.0 in
+          ap (λ (u : Term). Some (tree_of u))
+          (c.entry_child.ensures.term ∙ ap (λ (u : Term). part 1 u) same)
+          ∙ sym
+          (find_equal _ _ far.stands.1 far.rising (sym c.order_by_head.ensures.order
+          ∙ c.in-Equal.is))
+          ∙ far.child;
+      stands = search (arith, rules, tests);
+      shared =
+          λ own. some_is (λ a. g.R.RecordPool.shared a ≡ true) _ (c.entry_child.ensures.shared
+          (far.shares own));
+      on =
+          λ places low on.
+          let few = low_then far.later low in
+          some_is (IsOn g.R.RecordPool.shared
+          (g.R.RecordPool.shown c.entry_child.new.records) places) _
+          (c.entry_child.ensures.on places (low_then c.order_by_head.ensures.later few)
+          (λ private.
+          c.order_by_head.ensures.later.still c.in-Record.at places
+          (far.on places low on private) few));
+      later = later_then c.loop-side.invariant.later
+          (later_then c.order_by_head.ensures.later c.entry_child.ensures.later);
+      held = here_held _ _ _ _ _ _ (left_low _ far.stands.1) far.held c.order_by_head.ensures.held
+          c.entry_child.ensures.held;
+      records = c.entry_child.ensures.records ∙ c.order_by_head.ensures.records
+          ∙ c.loop-side.invariant.records;
+    }
 
 pub returns : goal.returns
 returns g c =

@@ -96,107 +96,89 @@ push_names-requires g t c κs within =
       ),
     )
 
-pub returns-in_err-push_names-clause-later : goal.returns-in_err-push_names-clause-later
-returns-in_err-push_names-clause-later g t c =
-    later_then c.read_part-left.ensures.later c.push_names.ensures.later
+pub returns-in_err-push_names : goal.returns-in_err-push_names
+returns-in_err-push_names g t c =
+    record {
+      names = none_owed _ _ c.from_residual.ensures.0;
+      later = later_then c.read_part-left.ensures.later c.push_names.ensures.later;
+      held =
+          let s0 = g.R.RecordPool.shown c.args.records.now in
+          let at = c.in-Record.at in
+          let t0 = s0.term at in
+          let is = rw c.in-Record.is at c.requires.stands in
+          let whole =
+          row_counts t0 _ _ is.1 c.read_part-left.ensures.part refl in
+          let one = place_one c.read_part-left.result _ _ c.read_part-left.ensures.held in
+          rw c.in-Record.is (left_held _ _ _ _ _ _ whole one c.push_names.ensures.held);
+      records = c.push_names.ensures.records ∙ c.read_part-left.ensures.records;
+      told = none_owed _ _ c.from_residual.ensures.0;
+    }
 
-pub returns-in_err-push_names-clause-held : goal.returns-in_err-push_names-clause-held
-returns-in_err-push_names-clause-held g t c =
-    let s0 = g.R.RecordPool.shown c.args.records.now in
+pub read_name-requires : goal.read_name-requires
+read_name-requires g t c =
     let at = c.in-Record.at in
-    let t0 = s0.term at in
     let is = rw c.in-Record.is at c.requires.stands in
-    let whole =
-    row_counts t0 _ _ is.1 c.read_part-left.ensures.part refl in
-    let one = place_one c.read_part-left.result _ _ c.read_part-left.ensures.held in
-    rw c.in-Record.is (left_held _ _ _ _ _ _ whole one c.push_names.ensures.held)
-
-pub returns-in_err-push_names-clause-records : goal.returns-in_err-push_names-clause-records
-returns-in_err-push_names-clause-records g t c =
-    c.push_names.ensures.records ∙ c.read_part-left.ensures.records
-
-pub read_name-requires-clause-stands : goal.read_name-requires-clause-stands
-read_name-requires-clause-stands g t c =
-    let is = rw c.in-Record.is at c.requires.stands in
-    let s1 = c.read_part-left.ensures.later.now c.in-Record.at is.0 in
-    c.push_names.ensures.later.now c.in-Record.at s1
-
-pub read_name-requires-clause-five : goal.read_name-requires-clause-five
-read_name-requires-clause-five g t c =
     let s0 = g.R.RecordPool.shown c.args.records.now in
-    let at = c.in-Record.at in
     let t0 = s0.term at in
-    let is = rw c.in-Record.is at c.requires.stands in
     let later = later_then c.read_part-left.ensures.later c.push_names.ensures.later in
-    subst IsFive (sym (later.same at is.0)) is.1
+    record {
+      stands =
+          let s1 = c.read_part-left.ensures.later.now c.in-Record.at is.0 in
+          c.push_names.ensures.later.now c.in-Record.at s1;
+      five = subst IsFive (sym (later.same at is.0)) is.1;
+      entry = subst AreEntries (sym (later.same at is.0)) (rw c.in-Record.is at c.requires.entries);
+      places =
+          let whole =
+          row_counts t0 _ _ is.1 c.read_part-left.ensures.part refl in
+          let places = rw c.in-Record.is at c.requires.places in
+          let one = place_one c.read_part-left.result _ _ c.read_part-left.ensures.held in
+          let fits =
+          name_fits _ _ _ _ _ _ _ _ _ whole places one c.read_part-left.ensures.later.room
+          c.push_names.ensures.held c.push_names.ensures.later.room in
+          five_fit (row_count (part 3 t0)) _ _ fits;
+    }
 
-pub read_name-requires-clause-entry : goal.read_name-requires-clause-entry
-read_name-requires-clause-entry g t c =
-    let s0 = g.R.RecordPool.shown c.args.records.now in
-    let at = c.in-Record.at in
-    let t0 = s0.term at in
-    let is = rw c.in-Record.is at c.requires.stands in
-    let later = later_then c.read_part-left.ensures.later c.push_names.ensures.later in
-    subst AreEntries (sym (later.same at is.0)) (rw c.in-Record.is at c.requires.entries)
+pub returns-in_err-name : goal.returns-in_err-name
+returns-in_err-name g t c =
+    record {
+      names = none_owed _ _ c.from_residual-in_err-name.ensures.0;
+      later = later_then (later_then c.read_part-left.ensures.later c.push_names.ensures.later)
+          c.read_name.ensures.later;
+      held =
+          let s0 = g.R.RecordPool.shown c.args.records.now in
+          let at = c.in-Record.at in
+          let t0 = s0.term at in
+          let is = rw c.in-Record.is at c.requires.stands in
+          let whole =
+          row_counts t0 _ _ is.1 c.read_part-left.ensures.part refl in
+          let one = place_one c.read_part-left.result _ _ c.read_part-left.ensures.held in
+          rw c.in-Record.is
+          (name_held _ _ _ _ _ _ _ whole one c.push_names.ensures.held c.read_name.ensures.held);
+      records = c.read_name.ensures.records ∙ c.push_names.ensures.records
+          ∙ c.read_part-left.ensures.records;
+      told = none_owed _ _ c.from_residual-in_err-name.ensures.0;
+    }
 
-pub read_name-requires-clause-places : goal.read_name-requires-clause-places
-read_name-requires-clause-places g t c =
-    let s0 = g.R.RecordPool.shown c.args.records.now in
-    let at = c.in-Record.at in
-    let t0 = s0.term at in
-    let is = rw c.in-Record.is at c.requires.stands in
-    let whole =
-    row_counts t0 _ _ is.1 c.read_part-left.ensures.part refl in
-    let places = rw c.in-Record.is at c.requires.places in
-    let one = place_one c.read_part-left.result _ _ c.read_part-left.ensures.held in
-    let fits =
-    name_fits _ _ _ _ _ _ _ _ _ whole places one c.read_part-left.ensures.later.room
-    c.push_names.ensures.held c.push_names.ensures.later.room in
-    five_fit (row_count (part 3 t0)) _ _ fits
-
-pub returns-in_err-name-clause-later : goal.returns-in_err-name-clause-later
-returns-in_err-name-clause-later g t c =
-    later_then (later_then c.read_part-left.ensures.later c.push_names.ensures.later)
-    c.read_name.ensures.later
-
-pub returns-in_err-name-clause-held : goal.returns-in_err-name-clause-held
-returns-in_err-name-clause-held g t c =
-    let s0 = g.R.RecordPool.shown c.args.records.now in
-    let at = c.in-Record.at in
-    let t0 = s0.term at in
-    let is = rw c.in-Record.is at c.requires.stands in
-    let whole =
-    row_counts t0 _ _ is.1 c.read_part-left.ensures.part refl in
-    let one = place_one c.read_part-left.result _ _ c.read_part-left.ensures.held in
-    rw c.in-Record.is
-    (name_held _ _ _ _ _ _ _ whole one c.push_names.ensures.held c.read_name.ensures.held)
-
-pub returns-in_err-name-clause-records : goal.returns-in_err-name-clause-records
-returns-in_err-name-clause-records g t c =
-    c.read_name.ensures.records ∙ c.push_names.ensures.records
-    ∙ c.read_part-left.ensures.records
-
-pub returns-in_err-push-clause-later : goal.returns-in_err-push-clause-later
-returns-in_err-push-clause-later g t c =
-    later_then (later_then c.read_part-left.ensures.later c.push_names.ensures.later)
-    c.read_name.ensures.later
-
-pub returns-in_err-push-clause-held : goal.returns-in_err-push-clause-held
-returns-in_err-push-clause-held g t c =
-    let s0 = g.R.RecordPool.shown c.args.records.now in
-    let at = c.in-Record.at in
-    let t0 = s0.term at in
-    let is = rw c.in-Record.is at c.requires.stands in
-    let whole =
-    row_counts t0 _ _ is.1 c.read_part-left.ensures.part refl in
-    let one = place_one c.read_part-left.result _ _ c.read_part-left.ensures.held in
-    rw c.in-Record.is
-    (name_held _ _ _ _ _ _ _ whole one c.push_names.ensures.held c.read_name.ensures.held)
-
-pub returns-in_err-push-clause-records : goal.returns-in_err-push-clause-records
-returns-in_err-push-clause-records g t c =
-    c.read_name.ensures.records ∙ c.push_names.ensures.records
-    ∙ c.read_part-left.ensures.records
+pub returns-in_err-push : goal.returns-in_err-push
+returns-in_err-push g t c =
+    record {
+      names = none_owed _ _ c.from_residual-in_err-push.ensures.0;
+      later = later_then (later_then c.read_part-left.ensures.later c.push_names.ensures.later)
+          c.read_name.ensures.later;
+      held =
+          let s0 = g.R.RecordPool.shown c.args.records.now in
+          let at = c.in-Record.at in
+          let t0 = s0.term at in
+          let is = rw c.in-Record.is at c.requires.stands in
+          let whole =
+          row_counts t0 _ _ is.1 c.read_part-left.ensures.part refl in
+          let one = place_one c.read_part-left.result _ _ c.read_part-left.ensures.held in
+          rw c.in-Record.is
+          (name_held _ _ _ _ _ _ _ whole one c.push_names.ensures.held c.read_name.ensures.held);
+      records = c.read_name.ensures.records ∙ c.push_names.ensures.records
+          ∙ c.read_part-left.ensures.records;
+      told = none_owed _ _ c.from_residual-in_err-push.ensures.0;
+    }
 
 pub read_part-right-requires-clause-stands : goal.read_part-right-requires-clause-stands
 read_part-right-requires-clause-stands g t c =
@@ -267,106 +249,40 @@ push_names-requires-2 g t c κs within =
       ),
     )
 
-pub returns-in_err-push_names-2-clause-later : goal.returns-in_err-push_names-2-clause-later
-returns-in_err-push_names-2-clause-later g t c =
-    later_then
-    (later_then (later_then c.read_part-left.ensures.later c.push_names.ensures.later)
-    c.read_name.ensures.later)
-    (later_then c.read_part-right.ensures.later c.push_names-2.ensures.later)
+pub returns-in_err-push_names-2 : goal.returns-in_err-push_names-2
+returns-in_err-push_names-2 g t c =
+    record {
+      names = none_owed _ _ c.from_residual-in_err-push_names-2.ensures.0;
+      later = later_then
+          (later_then (later_then c.read_part-left.ensures.later c.push_names.ensures.later)
+          c.read_name.ensures.later)
+          (later_then c.read_part-right.ensures.later c.push_names-2.ensures.later);
+      held =
+          let s0 = g.R.RecordPool.shown c.args.records.now in
+          let at = c.in-Record.at in
+          let t0 = s0.term at in
+          let is = rw c.in-Record.is at c.requires.stands in
+          let later =
+          later_then (later_then c.read_part-left.ensures.later c.push_names.ensures.later)
+          c.read_name.ensures.later in
+          let right_is =
+          field_same 3 s0 _ (g.R.RecordPool.shown c.read_part-right.new.records) at
+          c.read_part-right.result later is.0 c.read_part-right.ensures.part in
+          let whole =
+          row_counts t0 _ _ is.1 c.read_part-left.ensures.part right_is in
+          let one = place_one c.read_part-left.result _ _ c.read_part-left.ensures.held in
+          rw c.in-Record.is
+          (all_held _ _ _ _ _ _ _ _ _ whole one c.push_names.ensures.held c.read_name.ensures.held
+          (place_one c.read_part-right.result _ _ c.read_part-right.ensures.held)
+          c.push_names-2.ensures.held);
+      records = c.push_names-2.ensures.records ∙ c.read_part-right.ensures.records
+          ∙ c.read_name.ensures.records ∙ c.push_names.ensures.records
+          ∙ c.read_part-left.ensures.records;
+      told = none_owed _ _ c.from_residual-in_err-push_names-2.ensures.0;
+    }
 
-pub returns-in_err-push_names-2-clause-held : goal.returns-in_err-push_names-2-clause-held
-returns-in_err-push_names-2-clause-held g t c =
-    let s0 = g.R.RecordPool.shown c.args.records.now in
-    let at = c.in-Record.at in
-    let t0 = s0.term at in
-    let is = rw c.in-Record.is at c.requires.stands in
-    let later =
-    later_then (later_then c.read_part-left.ensures.later c.push_names.ensures.later)
-    c.read_name.ensures.later in
-    let right_is =
-    field_same 3 s0 _ (g.R.RecordPool.shown c.read_part-right.new.records) at
-    c.read_part-right.result later is.0 c.read_part-right.ensures.part in
-    let whole =
-    row_counts t0 _ _ is.1 c.read_part-left.ensures.part right_is in
-    let one = place_one c.read_part-left.result _ _ c.read_part-left.ensures.held in
-    rw c.in-Record.is
-    (all_held _ _ _ _ _ _ _ _ _ whole one c.push_names.ensures.held c.read_name.ensures.held
-    (place_one c.read_part-right.result _ _ c.read_part-right.ensures.held)
-    c.push_names-2.ensures.held)
-
-pub returns-in_err-push_names-2-clause-records : goal.returns-in_err-push_names-2-clause-records
-returns-in_err-push_names-2-clause-records g t c =
-    c.push_names-2.ensures.records ∙ c.read_part-right.ensures.records
-    ∙ c.read_name.ensures.records ∙ c.push_names.ensures.records
-    ∙ c.read_part-left.ensures.records
-
-pub returns-clause-later : goal.returns-clause-later
-returns-clause-later g t c =
-    later_then
-    (later_then (later_then c.read_part-left.ensures.later c.push_names.ensures.later)
-    c.read_name.ensures.later)
-    (later_then c.read_part-right.ensures.later c.push_names-2.ensures.later)
-
-pub returns-clause-held : goal.returns-clause-held
-returns-clause-held g t c =
-    let s0 = g.R.RecordPool.shown c.args.records.now in
-    let at = c.in-Record.at in
-    let t0 = s0.term at in
-    let is = rw c.in-Record.is at c.requires.stands in
-    let later =
-    later_then (later_then c.read_part-left.ensures.later c.push_names.ensures.later)
-    c.read_name.ensures.later in
-    let right_is =
-    field_same 3 s0 _ (g.R.RecordPool.shown c.read_part-right.new.records) at
-    c.read_part-right.result later is.0 c.read_part-right.ensures.part in
-    let whole =
-    row_counts t0 _ _ is.1 c.read_part-left.ensures.part right_is in
-    let one = place_one c.read_part-left.result _ _ c.read_part-left.ensures.held in
-    rw c.in-Record.is
-    (all_held _ _ _ _ _ _ _ _ _ whole one c.push_names.ensures.held c.read_name.ensures.held
-    (place_one c.read_part-right.result _ _ c.read_part-right.ensures.held)
-    c.push_names-2.ensures.held)
-
-pub returns-clause-records : goal.returns-clause-records
-returns-clause-records g t c =
-    c.push_names-2.ensures.records ∙ c.read_part-right.ensures.records
-    ∙ c.read_name.ensures.records ∙ c.push_names.ensures.records
-    ∙ c.read_part-left.ensures.records
-
-pub returns-in_err-push_names-clause-names : goal.returns-in_err-push_names-clause-names
-returns-in_err-push_names-clause-names g t c =
-    none_owed _ _ c.from_residual.ensures.0
-
-pub returns-in_err-push_names-clause-told : goal.returns-in_err-push_names-clause-told
-returns-in_err-push_names-clause-told g t c =
-    none_owed _ _ c.from_residual.ensures.0
-
-pub returns-in_err-name-clause-names : goal.returns-in_err-name-clause-names
-returns-in_err-name-clause-names g t c =
-    none_owed _ _ c.from_residual-in_err-name.ensures.0
-
-pub returns-in_err-name-clause-told : goal.returns-in_err-name-clause-told
-returns-in_err-name-clause-told g t c =
-    none_owed _ _ c.from_residual-in_err-name.ensures.0
-
-pub returns-in_err-push-clause-names : goal.returns-in_err-push-clause-names
-returns-in_err-push-clause-names g t c =
-    none_owed _ _ c.from_residual-in_err-push.ensures.0
-
-pub returns-in_err-push-clause-told : goal.returns-in_err-push-clause-told
-returns-in_err-push-clause-told g t c =
-    none_owed _ _ c.from_residual-in_err-push.ensures.0
-
-pub returns-in_err-push_names-2-clause-names : goal.returns-in_err-push_names-2-clause-names
-returns-in_err-push_names-2-clause-names g t c =
-    none_owed _ _ c.from_residual-in_err-push_names-2.ensures.0
-
-pub returns-in_err-push_names-2-clause-told : goal.returns-in_err-push_names-2-clause-told
-returns-in_err-push_names-2-clause-told g t c =
-    none_owed _ _ c.from_residual-in_err-push_names-2.ensures.0
-
-pub returns-clause-names : goal.returns-clause-names
-returns-clause-names g t c =
+pub returns : goal.returns
+returns g t c =
     let s0 = g.R.RecordPool.shown c.args.records.now in
     let at = c.in-Record.at in
     let is = rw c.in-Record.is at c.requires.stands in
@@ -375,29 +291,44 @@ returns-clause-names g t c =
     field_same 3 s0 _ (g.R.RecordPool.shown c.read_part-right.new.records) at
     c.read_part-right.result (later_then first c.read_name.ensures.later) is.0
     c.read_part-right.ensures.part in
-    rw c.in-Record.is
-    (names_read _ _ _ _ _ _ _ _ is.1 c.read_part-left.ensures.part
-    (ap (λ (u : Term). part 0 u) (first.same at is.0)) right_is
-    c.in_ok-push_names.ensures.names
-    (c.in_ok-push.ensures.ok
-    ∙ ap (λ (name : List ℕ). c.push_names.new.names ++ name ∷ []) c.in_ok-name.ensures.name)
-    c.in_ok-push_names-2.ensures.names)
-
-pub returns-clause-told : goal.returns-clause-told
-returns-clause-told g t c shared =
-    let s0 = g.R.RecordPool.shown c.args.records.now in
-    let at = c.in-Record.at in
-    let is = rw c.in-Record.is at c.requires.stands in
-    let own = rw c.in-Record.is at shared in
-    let first = later_then c.read_part-left.ensures.later c.push_names.ensures.later in
-    let right_is =
-    field_same 3 s0 _ (g.R.RecordPool.shown c.read_part-right.new.records) at
-    c.read_part-right.result (later_then first c.read_name.ensures.later) is.0
-    c.read_part-right.ensures.part in
-    rw c.in-Record.is
-    (entry_told _ _ _ _ _ _ _ _ _ _ is.1 c.read_part-left.ensures.part
-    (ap (λ (u : Term). part 0 u) (first.same at is.0)) right_is
-    (c.read_part-left.ensures.told own)
-    (c.in_ok-push_names.ensures.told (c.read_part-left.ensures.shared own))
-    (c.in_ok-name.ensures.told own) (c.read_part-right.ensures.told own)
-    (c.in_ok-push_names-2.ensures.told (c.read_part-right.ensures.shared own)))
+    record {
+      names = rw c.in-Record.is
+          (names_read _ _ _ _ _ _ _ _ is.1 c.read_part-left.ensures.part
+          (ap (λ (u : Term). part 0 u) (first.same at is.0)) right_is
+          c.in_ok-push_names.ensures.names
+          (c.in_ok-push.ensures.ok
+          ∙ ap (λ (name : List ℕ). c.push_names.new.names ++ name ∷ []) c.in_ok-name.ensures.name)
+          c.in_ok-push_names-2.ensures.names);
+      later = later_then
+          (later_then (later_then c.read_part-left.ensures.later c.push_names.ensures.later)
+          c.read_name.ensures.later)
+          (later_then c.read_part-right.ensures.later c.push_names-2.ensures.later);
+      held =
+          let t0 = s0.term at in
+          let later =
+          later_then (later_then c.read_part-left.ensures.later c.push_names.ensures.later)
+          c.read_name.ensures.later in
+          let right_is =
+          field_same 3 s0 _ (g.R.RecordPool.shown c.read_part-right.new.records) at
+          c.read_part-right.result later is.0 c.read_part-right.ensures.part in
+          let whole =
+          row_counts t0 _ _ is.1 c.read_part-left.ensures.part right_is in
+          let one = place_one c.read_part-left.result _ _ c.read_part-left.ensures.held in
+          rw c.in-Record.is
+          (all_held _ _ _ _ _ _ _ _ _ whole one c.push_names.ensures.held c.read_name.ensures.held
+          (place_one c.read_part-right.result _ _ c.read_part-right.ensures.held)
+          c.push_names-2.ensures.held);
+      records = c.push_names-2.ensures.records ∙ c.read_part-right.ensures.records
+          ∙ c.read_name.ensures.records ∙ c.push_names.ensures.records
+          ∙ c.read_part-left.ensures.records;
+      told =
+          λ shared.
+          let own = rw c.in-Record.is at shared in
+          rw c.in-Record.is
+          (entry_told _ _ _ _ _ _ _ _ _ _ is.1 c.read_part-left.ensures.part
+          (ap (λ (u : Term). part 0 u) (first.same at is.0)) right_is
+          (c.read_part-left.ensures.told own)
+          (c.in_ok-push_names.ensures.told (c.read_part-left.ensures.shared own))
+          (c.in_ok-name.ensures.told own) (c.read_part-right.ensures.told own)
+          (c.in_ok-push_names-2.ensures.told (c.read_part-right.ensures.shared own)));
+    }

@@ -16,97 +16,80 @@ pub read_part-top-requires-clause-place : goal.read_part-top-requires-clause-pla
 read_part-top-requires-clause-place g c =
     room_some 4 _ _ c.requires.places
 
-pub push_text-requires-clause-stands : goal.push_text-requires-clause-stands
-push_text-requires-clause-stands g c =
-    c.read_part-top.ensures.stands
-
-pub push_text-requires-clause-chain : goal.push_text-requires-clause-chain
-push_text-requires-clause-chain g c =
+pub push_text-requires : goal.push_text-requires
+push_text-requires g c =
     let is : IsName (part_term (g.R.RecordPool.shown c.read_part-top.new.records).term
     c.read_part-top.result) =
     subst IsName (sym c.read_part-top.ensures.part)
     (entry_name _ c.requires.five c.requires.entry) in
-    name_chain _ is
+    record {
+      stands = c.read_part-top.ensures.stands;
+      chain = name_chain _ is;
+      places = text_fits 4 _ _ _ _ _ c.requires.places
+          (place_one c.read_part-top.result _ _ c.read_part-top.ensures.held)
+          c.read_part-top.ensures.later.room (name_cells _ is);
+    }
 
-pub push_text-requires-clause-places : goal.push_text-requires-clause-places
-push_text-requires-clause-places g c =
-    let is : IsName (part_term (g.R.RecordPool.shown c.read_part-top.new.records).term
-    c.read_part-top.result) =
-    subst IsName (sym c.read_part-top.ensures.part)
-    (entry_name _ c.requires.five c.requires.entry) in
-    text_fits 4 _ _ _ _ _ c.requires.places
-    (place_one c.read_part-top.result _ _ c.read_part-top.ensures.held)
-    c.read_part-top.ensures.later.room (name_cells _ is)
+pub returns-in_err-push_text : goal.returns-in_err-push_text
+returns-in_err-push_text g c =
+    record {
+      name = none_given _ _ c.from_residual.ensures.0;
+      later = later_then c.read_part-top.ensures.later c.push_text.ensures.later;
+      held =
+          let is : IsName (part_term (g.R.RecordPool.shown c.read_part-top.new.records).term
+          c.read_part-top.result) =
+          subst IsName (sym c.read_part-top.ensures.part)
+          (entry_name _ c.requires.five c.requires.entry) in
+          text_held 3 _ _ _ _
+          (place_one c.read_part-top.result _ _ c.read_part-top.ensures.held)
+          c.push_text.ensures.held (name_cells _ is);
+      records = c.push_text.ensures.records ∙ c.read_part-top.ensures.records;
+      told = none_owed _ _ c.from_residual.ensures.0;
+    }
 
-pub returns-in_err-push_text-clause-later : goal.returns-in_err-push_text-clause-later
-returns-in_err-push_text-clause-later g c =
-    later_then c.read_part-top.ensures.later c.push_text.ensures.later
+pub returns-in_err-name : goal.returns-in_err-name
+returns-in_err-name g c =
+    record {
+      name = none_given _ _ c.from_residual-in_err-name.ensures.0;
+      later = later_then c.read_part-top.ensures.later c.push_text.ensures.later;
+      held =
+          let is : IsName (part_term (g.R.RecordPool.shown c.read_part-top.new.records).term
+          c.read_part-top.result) =
+          subst IsName (sym c.read_part-top.ensures.part)
+          (entry_name _ c.requires.five c.requires.entry) in
+          text_held 3 _ _ _ _
+          (place_one c.read_part-top.result _ _ c.read_part-top.ensures.held)
+          c.push_text.ensures.held (name_cells _ is);
+      records = c.push_text.ensures.records ∙ c.read_part-top.ensures.records;
+      told = none_owed _ _ c.from_residual-in_err-name.ensures.0;
+    }
 
-pub returns-in_err-push_text-clause-held : goal.returns-in_err-push_text-clause-held
-returns-in_err-push_text-clause-held g c =
-    let is : IsName (part_term (g.R.RecordPool.shown c.read_part-top.new.records).term
-    c.read_part-top.result) =
-    subst IsName (sym c.read_part-top.ensures.part)
-    (entry_name _ c.requires.five c.requires.entry) in
-    text_held 3 _ _ _ _
-    (place_one c.read_part-top.result _ _ c.read_part-top.ensures.held)
-    c.push_text.ensures.held (name_cells _ is)
-
-pub returns-in_err-push_text-clause-records : goal.returns-in_err-push_text-clause-records
-returns-in_err-push_text-clause-records g c =
-    c.push_text.ensures.records ∙ c.read_part-top.ensures.records
-
-pub returns-in_err-name-clause-later : goal.returns-in_err-name-clause-later
-returns-in_err-name-clause-later g c =
-    later_then c.read_part-top.ensures.later c.push_text.ensures.later
-
-pub returns-in_err-name-clause-held : goal.returns-in_err-name-clause-held
-returns-in_err-name-clause-held g c =
-    let is : IsName (part_term (g.R.RecordPool.shown c.read_part-top.new.records).term
-    c.read_part-top.result) =
-    subst IsName (sym c.read_part-top.ensures.part)
-    (entry_name _ c.requires.five c.requires.entry) in
-    text_held 3 _ _ _ _
-    (place_one c.read_part-top.result _ _ c.read_part-top.ensures.held)
-    c.push_text.ensures.held (name_cells _ is)
-
-pub returns-in_err-name-clause-records : goal.returns-in_err-name-clause-records
-returns-in_err-name-clause-records g c =
-    c.push_text.ensures.records ∙ c.read_part-top.ensures.records
-
-pub returns-clause-later : goal.returns-clause-later
-returns-clause-later g c =
-    later_then c.read_part-top.ensures.later c.push_text.ensures.later
-
-pub returns-clause-held : goal.returns-clause-held
-returns-clause-held g c =
-    let is : IsName (part_term (g.R.RecordPool.shown c.read_part-top.new.records).term
-    c.read_part-top.result) =
-    subst IsName (sym c.read_part-top.ensures.part)
-    (entry_name _ c.requires.five c.requires.entry) in
-    text_held 3 _ _ _ _
-    (place_one c.read_part-top.result _ _ c.read_part-top.ensures.held)
-    c.push_text.ensures.held (name_cells _ is)
-
-pub returns-clause-records : goal.returns-clause-records
-returns-clause-records g c =
-    c.push_text.ensures.records ∙ c.read_part-top.ensures.records
-
-pub returns-in_err-push_text-clause-name : goal.returns-in_err-push_text-clause-name
-returns-in_err-push_text-clause-name g c =
-    none_given _ _ c.from_residual.ensures.0
-
-pub returns-in_err-push_text-clause-told : goal.returns-in_err-push_text-clause-told
-returns-in_err-push_text-clause-told g c =
-    none_owed _ _ c.from_residual.ensures.0
-
-pub returns-in_err-name-clause-name : goal.returns-in_err-name-clause-name
-returns-in_err-name-clause-name g c =
-    none_given _ _ c.from_residual-in_err-name.ensures.0
-
-pub returns-in_err-name-clause-told : goal.returns-in_err-name-clause-told
-returns-in_err-name-clause-told g c =
-    none_owed _ _ c.from_residual-in_err-name.ensures.0
+pub returns : goal.returns
+returns g c =
+    record {
+      name =
+          let same : c.deref.result.now
+          ≡ text_of (part 0 ((g.R.RecordPool.shown c.args.records.now).term c.args.at)) =
+          c.deref.ensures.value ∙ c.in_ok-push_text.ensures.bytes
+          ∙ ap (λ (old : List ℕ). old
+          ++ text_of (part_term (g.R.RecordPool.shown c.read_part-top.new.records).term
+          c.read_part-top.result)) c.new-bytes.ensures.items
+          ∙ ap text_of c.read_part-top.ensures.part in
+          read_some _ _ _ (sym c.in_ok-name.ensures ∙ c.in-Some.is) ∙ same;
+      later = later_then c.read_part-top.ensures.later c.push_text.ensures.later;
+      held =
+          let is : IsName (part_term (g.R.RecordPool.shown c.read_part-top.new.records).term
+          c.read_part-top.result) =
+          subst IsName (sym c.read_part-top.ensures.part)
+          (entry_name _ c.requires.five c.requires.entry) in
+          text_held 3 _ _ _ _
+          (place_one c.read_part-top.result _ _ c.read_part-top.ensures.held)
+          c.push_text.ensures.held (name_cells _ is);
+      records = c.push_text.ensures.records ∙ c.read_part-top.ensures.records;
+      told = λ shared. part_told ask_text _ _ _ _ _ c.read_part-top.ensures.part
+          (c.read_part-top.ensures.told shared)
+          (c.in_ok-push_text.ensures.told (c.read_part-top.ensures.shared shared));
+    }
 
 pub unreachable-requires : goal.unreachable-requires
 unreachable-requires g c =
@@ -120,20 +103,3 @@ unreachable-requires g c =
     read_none _ _ (sym c.in_ok-name.ensures ∙ c.in-None.is)
     (subst (λ (bytes : List ℕ). is_name bytes ≡ true) (sym same)
     (entry_name _ c.requires.five c.requires.entry).name)
-
-pub returns-clause-name : goal.returns-clause-name
-returns-clause-name g c =
-    let same : c.deref.result.now
-    ≡ text_of (part 0 ((g.R.RecordPool.shown c.args.records.now).term c.args.at)) =
-    c.deref.ensures.value ∙ c.in_ok-push_text.ensures.bytes
-    ∙ ap (λ (old : List ℕ). old
-    ++ text_of (part_term (g.R.RecordPool.shown c.read_part-top.new.records).term
-    c.read_part-top.result)) c.new-bytes.ensures.items
-    ∙ ap text_of c.read_part-top.ensures.part in
-    read_some _ _ _ (sym c.in_ok-name.ensures ∙ c.in-Some.is) ∙ same
-
-pub returns-clause-told : goal.returns-clause-told
-returns-clause-told g c shared =
-    part_told ask_text _ _ _ _ _ c.read_part-top.ensures.part
-    (c.read_part-top.ensures.told shared)
-    (c.in_ok-push_text.ensures.told (c.read_part-top.ensures.shared shared))

@@ -12,27 +12,20 @@ use Rattle.doc_records.proofs.Chains.{cells_next, chain_next}
 use Rattle.doc_records.proofs.Steps.{field_same, later_then, place_one}
 use Rattle.doc_records.proofs.orders.+order_text.Goals as goal
 
-pub read_cell-cell-requires-clause-stands : goal.read_cell-cell-requires-clause-stands
-read_cell-cell-requires-clause-stands g t c =
-    let is = rw c.in-Record.is at c.requires.stands in
-    is.0
-
-pub read_cell-cell-requires-clause-five : goal.read_cell-cell-requires-clause-five
-read_cell-cell-requires-clause-five g t c =
-    let is = rw c.in-Record.is at c.requires.stands in
-    is.1
-
-pub read_cell-cell-requires-clause-place : goal.read_cell-cell-requires-clause-place
-read_cell-cell-requires-clause-place g t c =
-    let s0 = g.R.RecordPool.shown c.args.records.now in
+pub read_cell-cell-requires : goal.read_cell-cell-requires
+read_cell-cell-requires g t c =
     let at = c.in-Record.at in
-    let t0 = s0.term at in
     let is = rw c.in-Record.is at c.requires.stands in
-    let places = rw c.in-Record.is at c.requires.places in
-    cell_place _ _ _ _ (cells_next t0 is.1) places
-
-pub read_cell-cell-requires-clause-chain : goal.read_cell-cell-requires-clause-chain
-read_cell-cell-requires-clause-chain g t c = rw c.in-Record.is at c.requires.chain
+    record {
+      stands = is.0;
+      five = is.1;
+      place =
+          let s0 = g.R.RecordPool.shown c.args.records.now in
+          let t0 = s0.term at in
+          let places = rw c.in-Record.is at c.requires.places in
+          cell_place _ _ _ _ (cells_next t0 is.1) places;
+      chain = rw c.in-Record.is at c.requires.chain;
+    }
 
 pub read_part-next-requires-clause-stands : goal.read_part-next-requires-clause-stands
 read_part-next-requires-clause-stands g t c =
@@ -100,8 +93,8 @@ returns-in-Decided-clause-held g t c = cell_held _ _ _ c.read_cell-cell.ensures.
 pub returns-in-Decided-clause-records : goal.returns-in-Decided-clause-records
 returns-in-Decided-clause-records g t c = c.read_cell-cell.ensures.records
 
-pub returns-in-Same-clause-order : goal.returns-in-Same-clause-order
-returns-in-Same-clause-order g t c =
+pub returns-in-Same : goal.returns-in-Same
+returns-in-Same g t c =
     let s0 = g.R.RecordPool.shown c.args.records.now in
     let at = c.in-Record.at in
     let t0 = s0.term at in
@@ -111,35 +104,21 @@ returns-in-Same-clause-order g t c =
     let same : part_term s2.term next ≡ part 4 t0 =
     field_same 4 s0 _ s2 at next c.read_cell-cell.ensures.later is.0
     c.read_part-next.ensures.part in
-    let more = text_of (part 4 t0) in
-    rw c.in-Record.is
-    (c.order_text.ensures.order
-    ∙ ap (λ (u : Term). name_cmp c.in-Same.rest.now (text_of u)) same
-    ∙ sym (ap (name_cmp c.args.name.now) c.read_cell-cell.ensures.text ∙ c.order_cell.ensures more
-    ∙ ap (λ (known : Compared). order_then known more) c.in-Same.is))
-
-pub returns-in-Same-clause-later : goal.returns-in-Same-clause-later
-returns-in-Same-clause-later g t c =
-    later_then (later_then c.read_cell-cell.ensures.later c.read_part-next.ensures.later)
-    c.order_text.ensures.later
-
-pub returns-in-Same-clause-held : goal.returns-in-Same-clause-held
-returns-in-Same-clause-held g t c =
-    let s0 = g.R.RecordPool.shown c.args.records.now in
-    let at = c.in-Record.at in
-    let t0 = s0.term at in
-    let is = rw c.in-Record.is at c.requires.stands in
-    let s2 = g.R.RecordPool.shown c.read_part-next.new.records in
-    let next = c.read_part-next.result in
-    let same : part_term s2.term next ≡ part 4 t0 =
-    field_same 4 s0 _ s2 at next c.read_cell-cell.ensures.later is.0
-    c.read_part-next.ensures.part in
-    rw c.in-Record.is
-    (next_held _ _ _ _ _ _ _ (cells_then t0 _ is.1 same) c.read_cell-cell.ensures.held
-    c.read_part-next.ensures.held (place_one next _ _ c.read_part-next.ensures.held)
-    (place_cell s2 next c.read_part-next.ensures.stands) c.order_text.ensures.held)
-
-pub returns-in-Same-clause-records : goal.returns-in-Same-clause-records
-returns-in-Same-clause-records g t c =
-    c.order_text.ensures.records ∙ c.read_part-next.ensures.records
-    ∙ c.read_cell-cell.ensures.records
+    record {
+      order =
+          let more = text_of (part 4 t0) in
+          rw c.in-Record.is
+          (c.order_text.ensures.order
+          ∙ ap (λ (u : Term). name_cmp c.in-Same.rest.now (text_of u)) same
+          ∙ sym (ap (name_cmp c.args.name.now) c.read_cell-cell.ensures.text
+          ∙ c.order_cell.ensures more
+          ∙ ap (λ (known : Compared). order_then known more) c.in-Same.is));
+      later = later_then (later_then c.read_cell-cell.ensures.later c.read_part-next.ensures.later)
+          c.order_text.ensures.later;
+      held = rw c.in-Record.is
+          (next_held _ _ _ _ _ _ _ (cells_then t0 _ is.1 same) c.read_cell-cell.ensures.held
+          c.read_part-next.ensures.held (place_one next _ _ c.read_part-next.ensures.held)
+          (place_cell s2 next c.read_part-next.ensures.stands) c.order_text.ensures.held);
+      records = c.order_text.ensures.records ∙ c.read_part-next.ensures.records
+          ∙ c.read_cell-cell.ensures.records;
+    }

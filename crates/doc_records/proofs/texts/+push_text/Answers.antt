@@ -29,36 +29,30 @@ text_told t u a b c d is next first none others all rest due =
     rw next (rw (sym (ask_next t rest is)) due) in
     others all rest (none all (ask_text u rest) (first all (ask_text u rest) asked))
 
-pub read_cell-cell-requires-clause-stands : goal.read_cell-cell-requires-clause-stands
-read_cell-cell-requires-clause-stands g t c =
-    let is = rw c.in-Record.is at c.requires.stands in
-    is.0
-
-pub read_cell-cell-requires-clause-five : goal.read_cell-cell-requires-clause-five
-read_cell-cell-requires-clause-five g t c =
-    let is = rw c.in-Record.is at c.requires.stands in
-    is.1
-
-pub read_cell-cell-requires-clause-place : goal.read_cell-cell-requires-clause-place
-read_cell-cell-requires-clause-place g t c =
-    let s0 = g.R.RecordPool.shown c.args.records.now in
+pub read_cell-cell-requires : goal.read_cell-cell-requires
+read_cell-cell-requires g t c =
     let at = c.in-Record.at in
-    let t0 = s0.term at in
     let is = rw c.in-Record.is at c.requires.stands in
-    let places = rw c.in-Record.is at c.requires.places in
-    cell_place _ _ _ _ (cells_next t0 is.1) places
+    record {
+      stands = is.0;
+      five = is.1;
+      place =
+          let s0 = g.R.RecordPool.shown c.args.records.now in
+          let t0 = s0.term at in
+          let places = rw c.in-Record.is at c.requires.places in
+          cell_place _ _ _ _ (cells_next t0 is.1) places;
+      chain = rw c.in-Record.is at c.requires.chain;
+    }
 
-pub read_cell-cell-requires-clause-chain : goal.read_cell-cell-requires-clause-chain
-read_cell-cell-requires-clause-chain g t c = rw c.in-Record.is at c.requires.chain
-
-pub returns-in_err-push_cell-clause-later : goal.returns-in_err-push_cell-clause-later
-returns-in_err-push_cell-clause-later g t c = c.read_cell-cell.ensures.later
-
-pub returns-in_err-push_cell-clause-held : goal.returns-in_err-push_cell-clause-held
-returns-in_err-push_cell-clause-held g t c = cell_held _ _ _ c.read_cell-cell.ensures.held
-
-pub returns-in_err-push_cell-clause-records : goal.returns-in_err-push_cell-clause-records
-returns-in_err-push_cell-clause-records g t c = c.read_cell-cell.ensures.records
+pub returns-in_err-push_cell : goal.returns-in_err-push_cell
+returns-in_err-push_cell g t c =
+    record {
+      bytes = none_owed _ _ c.from_residual.ensures.0;
+      later = c.read_cell-cell.ensures.later;
+      held = cell_held _ _ _ c.read_cell-cell.ensures.held;
+      records = c.read_cell-cell.ensures.records;
+      told = none_owed _ _ c.from_residual.ensures.0;
+    }
 
 pub read_part-next-requires-clause-stands : goal.read_part-next-requires-clause-stands
 read_part-next-requires-clause-stands g t c =
@@ -106,13 +100,33 @@ push_text-requires g t c κs within =
       ),
     )
 
-pub returns-in_err-push_text-clause-later : goal.returns-in_err-push_text-clause-later
-returns-in_err-push_text-clause-later g t c =
-    later_then (later_then c.read_cell-cell.ensures.later c.read_part-next.ensures.later)
-    c.push_text.ensures.later
+pub returns-in_err-push_text : goal.returns-in_err-push_text
+returns-in_err-push_text g t c =
+    record {
+      bytes = none_owed _ _ c.from_residual-in_err-push_text.ensures.0;
+      later = later_then (later_then c.read_cell-cell.ensures.later c.read_part-next.ensures.later)
+          c.push_text.ensures.later;
+      held =
+          let s0 = g.R.RecordPool.shown c.args.records.now in
+          let at = c.in-Record.at in
+          let t0 = s0.term at in
+          let is = rw c.in-Record.is at c.requires.stands in
+          let s2 = g.R.RecordPool.shown c.read_part-next.new.records in
+          let next = c.read_part-next.result in
+          let same : part_term s2.term next ≡ part 4 t0 =
+          field_same 4 s0 _ s2 at next c.read_cell-cell.ensures.later is.0
+          c.read_part-next.ensures.part in
+          rw c.in-Record.is
+          (next_held _ _ _ _ _ _ _ (cells_then t0 _ is.1 same) c.read_cell-cell.ensures.held
+          c.read_part-next.ensures.held (place_one next _ _ c.read_part-next.ensures.held)
+          (place_cell s2 next c.read_part-next.ensures.stands) c.push_text.ensures.held);
+      records = c.push_text.ensures.records ∙ c.read_part-next.ensures.records
+          ∙ c.read_cell-cell.ensures.records;
+      told = none_owed _ _ c.from_residual-in_err-push_text.ensures.0;
+    }
 
-pub returns-in_err-push_text-clause-held : goal.returns-in_err-push_text-clause-held
-returns-in_err-push_text-clause-held g t c =
+pub returns : goal.returns
+returns g t c =
     let s0 = g.R.RecordPool.shown c.args.records.now in
     let at = c.in-Record.at in
     let t0 = s0.term at in
@@ -122,88 +136,26 @@ returns-in_err-push_text-clause-held g t c =
     let same : part_term s2.term next ≡ part 4 t0 =
     field_same 4 s0 _ s2 at next c.read_cell-cell.ensures.later is.0
     c.read_part-next.ensures.part in
-    rw c.in-Record.is
-    (next_held _ _ _ _ _ _ _ (cells_then t0 _ is.1 same) c.read_cell-cell.ensures.held
-    c.read_part-next.ensures.held (place_one next _ _ c.read_part-next.ensures.held)
-    (place_cell s2 next c.read_part-next.ensures.stands) c.push_text.ensures.held)
-
-pub returns-in_err-push_text-clause-records : goal.returns-in_err-push_text-clause-records
-returns-in_err-push_text-clause-records g t c =
-    c.push_text.ensures.records ∙ c.read_part-next.ensures.records
-    ∙ c.read_cell-cell.ensures.records
-
-pub returns-clause-later : goal.returns-clause-later
-returns-clause-later g t c =
-    later_then (later_then c.read_cell-cell.ensures.later c.read_part-next.ensures.later)
-    c.push_text.ensures.later
-
-pub returns-clause-held : goal.returns-clause-held
-returns-clause-held g t c =
-    let s0 = g.R.RecordPool.shown c.args.records.now in
-    let at = c.in-Record.at in
-    let t0 = s0.term at in
-    let is = rw c.in-Record.is at c.requires.stands in
-    let s2 = g.R.RecordPool.shown c.read_part-next.new.records in
-    let next = c.read_part-next.result in
-    let same : part_term s2.term next ≡ part 4 t0 =
-    field_same 4 s0 _ s2 at next c.read_cell-cell.ensures.later is.0
-    c.read_part-next.ensures.part in
-    rw c.in-Record.is
-    (next_held _ _ _ _ _ _ _ (cells_then t0 _ is.1 same) c.read_cell-cell.ensures.held
-    c.read_part-next.ensures.held (place_one next _ _ c.read_part-next.ensures.held)
-    (place_cell s2 next c.read_part-next.ensures.stands) c.push_text.ensures.held)
-
-pub returns-clause-records : goal.returns-clause-records
-returns-clause-records g t c =
-    c.push_text.ensures.records ∙ c.read_part-next.ensures.records
-    ∙ c.read_cell-cell.ensures.records
-
-pub returns-in_err-push_cell-clause-bytes : goal.returns-in_err-push_cell-clause-bytes
-returns-in_err-push_cell-clause-bytes g t c =
-    none_owed _ _ c.from_residual.ensures.0
-
-pub returns-in_err-push_cell-clause-told : goal.returns-in_err-push_cell-clause-told
-returns-in_err-push_cell-clause-told g t c =
-    none_owed _ _ c.from_residual.ensures.0
-
-pub returns-in_err-push_text-clause-bytes : goal.returns-in_err-push_text-clause-bytes
-returns-in_err-push_text-clause-bytes g t c =
-    none_owed _ _ c.from_residual-in_err-push_text.ensures.0
-
-pub returns-in_err-push_text-clause-told : goal.returns-in_err-push_text-clause-told
-returns-in_err-push_text-clause-told g t c =
-    none_owed _ _ c.from_residual-in_err-push_text.ensures.0
-
-pub returns-clause-bytes : goal.returns-clause-bytes
-returns-clause-bytes g t c =
-    let s0 = g.R.RecordPool.shown c.args.records.now in
-    let at = c.in-Record.at in
-    let t0 = s0.term at in
-    let is = rw c.in-Record.is at c.requires.stands in
-    let s2 = g.R.RecordPool.shown c.read_part-next.new.records in
-    let next = c.read_part-next.result in
-    let same : part_term s2.term next ≡ part 4 t0 =
-    field_same 4 s0 _ s2 at next c.read_cell-cell.ensures.later is.0
-    c.read_part-next.ensures.part in
-    let cell = c.read_cell-cell.result in
-    rw c.in-Record.is
-    (text_read t0 _ (bytes_here cell.count cell.first cell.second cell.third)
-    c.args.bytes.now.items c.push_cell.new.bytes.items _ c.read_cell-cell.ensures.text same
-    c.in_ok-push_cell.ensures c.in_ok-push_text.ensures.bytes)
-
-pub returns-clause-told : goal.returns-clause-told
-returns-clause-told g t c shared =
-    let s0 = g.R.RecordPool.shown c.args.records.now in
-    let at = c.in-Record.at in
-    let t0 = s0.term at in
-    let is = rw c.in-Record.is at c.requires.stands in
-    let s2 = g.R.RecordPool.shown c.read_part-next.new.records in
-    let next = c.read_part-next.result in
-    let same : part_term s2.term next ≡ part 4 t0 =
-    field_same 4 s0 _ s2 at next c.read_cell-cell.ensures.later is.0
-    c.read_part-next.ensures.part in
-    let own = rw c.in-Record.is at shared in
-    rw c.in-Record.is
-    (text_told _ _ _ _ _ _ is.1 same (c.read_cell-cell.ensures.told own)
-    (c.read_part-next.ensures.told own)
-    (c.in_ok-push_text.ensures.told (c.read_part-next.ensures.shared own)))
+    record {
+      bytes =
+          let cell = c.read_cell-cell.result in
+          rw c.in-Record.is
+          (text_read t0 _ (bytes_here cell.count cell.first cell.second cell.third)
+          c.args.bytes.now.items c.push_cell.new.bytes.items _ c.read_cell-cell.ensures.text same
+          c.in_ok-push_cell.ensures c.in_ok-push_text.ensures.bytes);
+      later = later_then (later_then c.read_cell-cell.ensures.later c.read_part-next.ensures.later)
+          c.push_text.ensures.later;
+      held = rw c.in-Record.is
+          (next_held _ _ _ _ _ _ _ (cells_then t0 _ is.1 same) c.read_cell-cell.ensures.held
+          c.read_part-next.ensures.held (place_one next _ _ c.read_part-next.ensures.held)
+          (place_cell s2 next c.read_part-next.ensures.stands) c.push_text.ensures.held);
+      records = c.push_text.ensures.records ∙ c.read_part-next.ensures.records
+          ∙ c.read_cell-cell.ensures.records;
+      told =
+          λ shared.
+          let own = rw c.in-Record.is at shared in
+          rw c.in-Record.is
+          (text_told _ _ _ _ _ _ is.1 same (c.read_cell-cell.ensures.told own)
+          (c.read_part-next.ensures.told own)
+          (c.in_ok-push_text.ensures.told (c.read_part-next.ensures.shared own)));
+    }

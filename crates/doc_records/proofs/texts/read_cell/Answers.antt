@@ -1,4 +1,4 @@
-use Rattle.std.proofs.Common.{◌≡◌, ◌∙◌, ◌<◌, ◌++◌, List, ap, arith, subst, sym, ℕ}
+use Rattle.std.proofs.Common.{◌≡◌, ◌∙◌, ◌<◌, ◌++◌, List, ap, arith, subst, sym, ℕ, rules, tests}
 use Rattle.cell_words.specs.Term.{Term, number, part, IsFive}
 use Rattle.trails.specs.Marks.{Mark}
 use Rattle.trails.specs.Telling.{Due, Tells}
@@ -109,8 +109,8 @@ read_word-third-requires-clause-num g c =
     subst (λ (u : Term). IsNum (part 3 u)) (sym e3)
     (num_third t0 c.requires.five c.requires.chain)
 
-pub returns-clause-text : goal.returns-clause-text
-returns-clause-text g c =
+pub returns : goal.returns
+returns g c =
     let at = c.args.at in
     let t0 = (g.R.RecordPool.shown c.args.records.now).term at in
     let e1 : (g.R.RecordPool.shown c.read_number-count.new.records).term at ≡ t0 =
@@ -124,38 +124,18 @@ returns-clause-text g c =
     let n1 = c.read_word-first.ensures.number ∙ ap (λ (u : Term). number (part 1 u)) e1 in
     let n2 = c.read_word-second.ensures.number ∙ ap (λ (u : Term). number (part 2 u)) e2 in
     let n3 = c.read_word-third.ensures.number ∙ ap (λ (u : Term). number (part 3 u)) e3 in
-    cell_text t0 _ _ _ _ c.requires.five c.read_number-count.ensures.number n1 n2 n3
-
-pub returns-clause-later : goal.returns-clause-later
-returns-clause-later g c =
-    later_then (later_then c.read_number-count.ensures.later c.read_word-first.ensures.later)
-    (later_then c.read_word-second.ensures.later c.read_word-third.ensures.later)
-
-pub returns-clause-held : goal.returns-clause-held
-returns-clause-held g c =
-    c.read_word-third.ensures.held ∙ c.read_word-second.ensures.held
-    ∙ c.read_word-first.ensures.held ∙ c.read_number-count.ensures.held
-
-pub returns-clause-records : goal.returns-clause-records
-returns-clause-records g c =
-    c.read_word-third.ensures.records ∙ c.read_word-second.ensures.records
-    ∙ c.read_word-first.ensures.records ∙ c.read_number-count.ensures.records
-
-pub returns-clause-told : goal.returns-clause-told
-returns-clause-told g c shared =
-    let at = c.args.at in
-    let t0 = (g.R.RecordPool.shown c.args.records.now).term at in
-    let e1 : (g.R.RecordPool.shown c.read_number-count.new.records).term at ≡ t0 =
-    c.read_number-count.ensures.later.same at c.requires.stands in
-    let s1 = c.read_number-count.ensures.later.now at c.requires.stands in
-    let e2 : (g.R.RecordPool.shown c.read_word-first.new.records).term at ≡ t0 =
-    c.read_word-first.ensures.later.same at s1 ∙ e1 in
-    let s2 = c.read_word-first.ensures.later.now at s1 in
-    let e3 : (g.R.RecordPool.shown c.read_word-second.new.records).term at ≡ t0 =
-    c.read_word-second.ensures.later.same at s2 ∙ e2 in
-    let n1 = c.read_word-first.ensures.number ∙ ap (λ (u : Term). number (part 1 u)) e1 in
-    let n2 = c.read_word-second.ensures.number ∙ ap (λ (u : Term). number (part 2 u)) e2 in
-    let n3 = c.read_word-third.ensures.number ∙ ap (λ (u : Term). number (part 3 u)) e3 in
-    cell_told t0 _ _ _ _ _ _ _ _ n1 n2 n3 (c.read_number-count.ensures.told shared)
-    (c.read_word-first.ensures.told shared) (c.read_word-second.ensures.told shared)
-    (c.read_word-third.ensures.told shared)
+    record {
+      count = search (arith, rules, tests);
+      text = cell_text t0 _ _ _ _ c.requires.five c.read_number-count.ensures.number n1 n2 n3;
+      later =
+          later_then (later_then c.read_number-count.ensures.later c.read_word-first.ensures.later)
+          (later_then c.read_word-second.ensures.later c.read_word-third.ensures.later);
+      held = c.read_word-third.ensures.held ∙ c.read_word-second.ensures.held
+          ∙ c.read_word-first.ensures.held ∙ c.read_number-count.ensures.held;
+      records = c.read_word-third.ensures.records ∙ c.read_word-second.ensures.records
+          ∙ c.read_word-first.ensures.records ∙ c.read_number-count.ensures.records;
+      told =
+          λ shared. cell_told t0 _ _ _ _ _ _ _ _ n1 n2 n3 (c.read_number-count.ensures.told shared)
+          (c.read_word-first.ensures.told shared) (c.read_word-second.ensures.told shared)
+          (c.read_word-third.ensures.told shared);
+    }

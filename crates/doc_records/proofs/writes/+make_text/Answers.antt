@@ -86,47 +86,34 @@ make_text-next-requires g t c κs within =
       ),
     )
 
-pub make-requires-clause-first : goal.make-requires-clause-first
-make-requires-clause-first g t c = c.requires.few
+pub make-requires : goal.make-requires
+make-requires g t c =
+    record {
+      first = c.requires.few;
+      second = word_low _ c.word-first.ensures.fits;
+      third = word_low _ c.word-second.ensures.fits;
+      fourth = word_low _ c.word-third.ensures.fits;
+      fifth = c.make_text-next.ensures.stands;
+      records =
+          let some = some_bytes c.args.bytes.now (sym c.is_empty.ensures ∙ c.if-is_empty.false) in
+          let one = one_more c.args.bytes.now _ c.past.ensures some in
+          cell_room _ _ _ _ one c.requires.records c.make_text-next.ensures.records;
+    }
 
-pub make-requires-clause-second : goal.make-requires-clause-second
-make-requires-clause-second g t c = word_low _ c.word-first.ensures.fits
-
-pub make-requires-clause-third : goal.make-requires-clause-third
-make-requires-clause-third g t c = word_low _ c.word-second.ensures.fits
-
-pub make-requires-clause-fourth : goal.make-requires-clause-fourth
-make-requires-clause-fourth g t c = word_low _ c.word-third.ensures.fits
-
-pub make-requires-clause-fifth : goal.make-requires-clause-fifth
-make-requires-clause-fifth g t c = c.make_text-next.ensures.stands
-
-pub make-requires-clause-records : goal.make-requires-clause-records
-make-requires-clause-records g t c =
+pub returns : goal.returns
+returns g t c =
     let some = some_bytes c.args.bytes.now (sym c.is_empty.ensures ∙ c.if-is_empty.false) in
-    let one = one_more c.args.bytes.now _ c.past.ensures some in
-    cell_room _ _ _ _ one c.requires.records c.make_text-next.ensures.records
-
-pub returns-clause-text : goal.returns-clause-text
-returns-clause-text g t c =
-    let some = some_bytes c.args.bytes.now (sym c.is_empty.ensures ∙ c.if-is_empty.false) in
-    let s1 = g.R.RecordPool.shown c.make_text-next.new.records in
-    text_made _ (part_term s1.term c.make_text-next.result) c.args.bytes.now some
-    (cell_is _ _ _ _ _ _ _ _ c.make.ensures.term c.word-first.ensures.word
-    c.word-second.ensures.word c.word-third.ensures.word c.past-2.ensures c.past-3.ensures)
-    (subst (SpellsText _) c.past.ensures c.make_text-next.ensures.text)
-
-pub returns-clause-stands : goal.returns-clause-stands
-returns-clause-stands g t c = (c.make.ensures.stands, subst IsFive (sym c.make.ensures.term) tt)
-
-pub returns-clause-later : goal.returns-clause-later
-returns-clause-later g t c = later_then c.make_text-next.ensures.later c.make.ensures.later
-
-pub returns-clause-held : goal.returns-clause-held
-returns-clause-held g t c = c.make.ensures.held ∙ c.make_text-next.ensures.held
-
-pub returns-clause-records : goal.returns-clause-records
-returns-clause-records g t c =
-    let some = some_bytes c.args.bytes.now (sym c.is_empty.ensures ∙ c.if-is_empty.false) in
-    let one = one_more c.args.bytes.now _ c.past.ensures some in
-    all_made _ _ _ _ _ one c.make_text-next.ensures.records c.make.ensures.records
+    record {
+      text =
+          let s1 = g.R.RecordPool.shown c.make_text-next.new.records in
+          text_made _ (part_term s1.term c.make_text-next.result) c.args.bytes.now some
+          (cell_is _ _ _ _ _ _ _ _ c.make.ensures.term c.word-first.ensures.word
+          c.word-second.ensures.word c.word-third.ensures.word c.past-2.ensures c.past-3.ensures)
+          (subst (SpellsText _) c.past.ensures c.make_text-next.ensures.text);
+      stands = (c.make.ensures.stands, subst IsFive (sym c.make.ensures.term) tt);
+      later = later_then c.make_text-next.ensures.later c.make.ensures.later;
+      held = c.make.ensures.held ∙ c.make_text-next.ensures.held;
+      records =
+          let one = one_more c.args.bytes.now _ c.past.ensures some in
+          all_made _ _ _ _ _ one c.make_text-next.ensures.records c.make.ensures.records;
+    }

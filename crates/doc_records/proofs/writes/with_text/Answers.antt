@@ -1,5 +1,5 @@
 use Rattle.std.proofs.Common.{◌≡◌, ◌∙◌, ◌+◌, ◌/◌, ◌^◌, ◌<◌, ◌≤◌, List, ap, arith, length, refl}
-use Rattle.std.proofs.Common.{subst, sym, true, ℕ}
+use Rattle.std.proofs.Common.{subst, sym, true, ℕ, rules, tests}
 use Rattle.cell_words.specs.Term.{Term, null, num, five, number, part}
 use Rattle.doc_tree.specs.Words.{is_text}
 use Rattle.doc_records.specs.Shapes.{IsNum}
@@ -91,38 +91,64 @@ read_number-height-requires-clause-num g c =
     let high = ap (λ (u : Term). part 3 u) e2 ∙ node_height t0 c.requires.node in
     num_is _ _ high
 
-pub make-requires-clause-first : goal.make-requires-clause-first
-make-requires-clause-first g c = c.make_text-text.ensures.stands
+pub make-requires : goal.make-requires
+make-requires g c =
+    record {
+      first = c.make_text-text.ensures.stands;
+      second =
+          let later =
+          later_then (later_then c.read_number-count.ensures.later
+          c.read_number-height.ensures.later)
+          c.make_text-text.ensures.later in
+          part_still _ _ c.read_part-entries.result later c.read_part-entries.ensures.stands;
+      third = c.read_number-count.ensures.fits;
+      fourth = c.read_number-height.ensures.fits;
+      fifth = search (arith, rules, tests);
+      records = node_room _ _ _ _ _ _ _ (ap cells_in c.bytes.ensures.bytes) c.requires.records
+          c.read_part-entries.ensures.records c.read_number-count.ensures.records
+          c.read_number-height.ensures.records c.make_text-text.ensures.records;
+    }
 
-pub make-requires-clause-second : goal.make-requires-clause-second
-make-requires-clause-second g c =
-    let later =
-    later_then (later_then c.read_number-count.ensures.later c.read_number-height.ensures.later)
-    c.make_text-text.ensures.later in
-    part_still _ _ c.read_part-entries.result later c.read_part-entries.ensures.stands
-
-pub make-requires-clause-third : goal.make-requires-clause-third
-make-requires-clause-third g c = c.read_number-count.ensures.fits
-
-pub make-requires-clause-fourth : goal.make-requires-clause-fourth
-make-requires-clause-fourth g c = c.read_number-height.ensures.fits
-
-pub returns-clause-stands : goal.returns-clause-stands
-returns-clause-stands g c = c.make.ensures.stands
-
-pub returns-clause-later : goal.returns-clause-later
-returns-clause-later g c =
-    later_then
-    (later_then (later_then c.read_part-entries.ensures.later c.read_number-count.ensures.later)
-    c.read_number-height.ensures.later)
-    (later_then c.make_text-text.ensures.later c.make.ensures.later)
-
-pub returns-clause-held : goal.returns-clause-held
-returns-clause-held g c =
-    made_held _ _ _ _ _ _
-    (place_one c.read_part-entries.result _ _ c.read_part-entries.ensures.held)
-    c.read_number-count.ensures.held c.read_number-height.ensures.held
-    c.make_text-text.ensures.held c.make.ensures.held
+pub returns : goal.returns
+returns g c =
+    record {
+      tree =
+          let stands1 = c.read_part-entries.ensures.later.now c.args.at c.requires.stands in
+          let t0 = (g.R.RecordPool.shown c.args.records.now).term c.args.at in
+          let e1 = c.read_part-entries.ensures.later.same c.args.at c.requires.stands in
+          let e2 : (g.R.RecordPool.shown c.read_number-count.new.records).term c.args.at ≡ t0 =
+          c.read_number-count.ensures.later.same c.args.at stands1 ∙ e1 in
+          let counted = ap (λ (u : Term). part 2 u) e1 ∙ node_count t0 c.requires.node in
+          let high = ap (λ (u : Term). part 3 u) e2 ∙ node_height t0 c.requires.node in
+          let later =
+          later_then (later_then c.read_number-count.ensures.later
+          c.read_number-height.ensures.later)
+          c.make_text-text.ensures.later in
+          let entries =
+          part_same _ _ c.read_part-entries.result later c.read_part-entries.ensures.stands
+          ∙ c.read_part-entries.ensures.part in
+          let made =
+          five_is _ _ _ _ _ _ _ _ c.make.ensures.term entries
+          (c.read_number-count.ensures.number ∙ ap number counted)
+          (c.read_number-height.ensures.number ∙ ap number high) in
+          node_with_text t0 _ _ c.args.text.now c.requires.node
+          (subst (SpellsText _) c.bytes.ensures.bytes c.make_text-text.ensures.text)
+          c.bytes.ensures.text made;
+      stands = c.make.ensures.stands;
+      later = later_then
+          (later_then (later_then c.read_part-entries.ensures.later
+          c.read_number-count.ensures.later)
+          c.read_number-height.ensures.later)
+          (later_then c.make_text-text.ensures.later c.make.ensures.later);
+      held = made_held _ _ _ _ _ _
+          (place_one c.read_part-entries.result _ _ c.read_part-entries.ensures.held)
+          c.read_number-count.ensures.held c.read_number-height.ensures.held
+          c.make_text-text.ensures.held c.make.ensures.held;
+      records = all_made _ _ _ _ _ _ _ _ (ap cells_in c.bytes.ensures.bytes)
+          c.read_part-entries.ensures.records c.read_number-count.ensures.records
+          c.read_number-height.ensures.records c.make_text-text.ensures.records
+          c.make.ensures.records;
+    }
 
 pub make_text-text-requires-clause-few : goal.make_text-text-requires-clause-few
 make_text-text-requires-clause-few g c = text_few _ _ c.bytes.ensures.bytes c.bytes.ensures.text
@@ -132,39 +158,3 @@ make_text-text-requires-clause-records g c =
     text_room _ _ _ _ _ _ (ap cells_in c.bytes.ensures.bytes) c.requires.records
     c.read_part-entries.ensures.records c.read_number-count.ensures.records
     c.read_number-height.ensures.records
-
-pub make-requires-clause-records : goal.make-requires-clause-records
-make-requires-clause-records g c =
-    node_room _ _ _ _ _ _ _ (ap cells_in c.bytes.ensures.bytes) c.requires.records
-    c.read_part-entries.ensures.records c.read_number-count.ensures.records
-    c.read_number-height.ensures.records c.make_text-text.ensures.records
-
-pub returns-clause-records : goal.returns-clause-records
-returns-clause-records g c =
-    all_made _ _ _ _ _ _ _ _ (ap cells_in c.bytes.ensures.bytes)
-    c.read_part-entries.ensures.records c.read_number-count.ensures.records
-    c.read_number-height.ensures.records c.make_text-text.ensures.records
-    c.make.ensures.records
-
-pub returns-clause-tree : goal.returns-clause-tree
-returns-clause-tree g c =
-    let stands1 = c.read_part-entries.ensures.later.now c.args.at c.requires.stands in
-    let t0 = (g.R.RecordPool.shown c.args.records.now).term c.args.at in
-    let e1 = c.read_part-entries.ensures.later.same c.args.at c.requires.stands in
-    let e2 : (g.R.RecordPool.shown c.read_number-count.new.records).term c.args.at ≡ t0 =
-    c.read_number-count.ensures.later.same c.args.at stands1 ∙ e1 in
-    let counted = ap (λ (u : Term). part 2 u) e1 ∙ node_count t0 c.requires.node in
-    let high = ap (λ (u : Term). part 3 u) e2 ∙ node_height t0 c.requires.node in
-    let later =
-    later_then (later_then c.read_number-count.ensures.later c.read_number-height.ensures.later)
-    c.make_text-text.ensures.later in
-    let entries =
-    part_same _ _ c.read_part-entries.result later c.read_part-entries.ensures.stands
-    ∙ c.read_part-entries.ensures.part in
-    let made =
-    five_is _ _ _ _ _ _ _ _ c.make.ensures.term entries
-    (c.read_number-count.ensures.number ∙ ap number counted)
-    (c.read_number-height.ensures.number ∙ ap number high) in
-    node_with_text t0 _ _ c.args.text.now c.requires.node
-    (subst (SpellsText _) c.bytes.ensures.bytes c.make_text-text.ensures.text)
-    c.bytes.ensures.text made

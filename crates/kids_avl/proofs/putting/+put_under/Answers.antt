@@ -1,4 +1,4 @@
-use Rattle.std.proofs.Common.{◌≡◌, ◌≤◌, ap, sym, ◌∙◌, arith, rules}
+use Rattle.std.proofs.Common.{◌≡◌, ◌≤◌, ap, sym, ◌∙◌, arith, rules, tests}
 use Rattle.doc_tree.specs.Tree.{name_cmp, IsRising}
 use Rattle.kids_avl.specs.Entries.{entry, kids_of, height_of, name_of}
 use Rattle.kids_avl.specs.Pool.{under}
@@ -16,26 +16,41 @@ order-order-requires-clause-places g t c =
     rw c.in-Some.is (entry_high _ is) in
     omega (arith, h, c.requires.places)
 
-pub make_like-requires-clause-ordered : goal.make_like-requires-clause-ordered
-make_like-requires-clause-ordered g t c =
+pub make_like-requires : goal.make_like-requires
+make_like-requires g t c =
     let stands = rw c.in-Some.is at c.requires.stands in
     let later_order = c.order-order.ensures.later in
     let later_read = c.read_entry-entry.ensures.later in
     let stands_order = later_order.still c.in-Some.at stands in
-    let name = name_of (g.K.KidPool.entries c.order-order.new.self c.in-Some.at) in
-    let was = g.K.KidPool.tree c.read_entry-entry.new.pool c.read_entry-entry.result.child in
-    let child = g.K.KidPool.tree c.read_entry-entry.new.pool c.args.child in
-    let left = under g.K.KidPool.entries c.read_entry-entry.new.pool
-    c.read_entry-entry.result.left in
-    let right = under g.K.KidPool.entries c.read_entry-entry.new.pool
-    c.read_entry-entry.result.right in
-    let whole : under g.K.KidPool.entries c.args.pool.now c.args.top
-    ≡ entry name was left right =
-    ap (under g.K.KidPool.entries c.args.pool.now) c.in-Some.is
-    ∙ sym (later_order.same c.in-Some.at stands) ∙ c.read_entry-entry.ensures.entry in
-    let rising : IsRising (kids_of (entry name was left right)) = rw whole at c.requires.rising in
-    rw (later_read.same c.in-Some.at stands_order)
-    (rising_other name was child left right rising)
+    record {
+      like = later_read.still c.in-Some.at stands_order;
+      child = later_read.child_still c.args.child
+          (later_order.child_still c.args.child c.requires.child);
+      left = c.read_entry-entry.ensures.left;
+      right = c.read_entry-entry.ensures.right;
+      balanced =
+          let whole =
+          ap (under g.K.KidPool.entries c.args.pool.now) c.in-Some.is
+          ∙ sym (later_order.same c.in-Some.at stands) ∙ c.read_entry-entry.ensures.entry in
+          even_parts _ _ _ _ _ whole c.requires.balanced;
+      ordered =
+          let name = name_of (g.K.KidPool.entries c.order-order.new.self c.in-Some.at) in
+          let was = g.K.KidPool.tree c.read_entry-entry.new.pool c.read_entry-entry.result.child in
+          let child = g.K.KidPool.tree c.read_entry-entry.new.pool c.args.child in
+          let left = under g.K.KidPool.entries c.read_entry-entry.new.pool
+          c.read_entry-entry.result.left in
+          let right = under g.K.KidPool.entries c.read_entry-entry.new.pool
+          c.read_entry-entry.result.right in
+          let whole : under g.K.KidPool.entries c.args.pool.now c.args.top
+          ≡ entry name was left right =
+          ap (under g.K.KidPool.entries c.args.pool.now) c.in-Some.is
+          ∙ sym (later_order.same c.in-Some.at stands) ∙ c.read_entry-entry.ensures.entry in
+          let rising : IsRising (kids_of (entry name was left right)) = rw whole at c.requires.rising in
+          rw (later_read.same c.in-Some.at stands_order)
+          (rising_other name was child left right rising);
+      places = search (arith, rules, tests);
+      records = search (arith, rules, tests);
+    }
 
 pub returns-in-Less-clause-put : goal.returns-in-Less-clause-put
 returns-in-Less-clause-put g t c =
@@ -107,50 +122,37 @@ read_entry-entry-requires-clause-stands g t c =
     let later_order = c.order-order.ensures.later in
     later_order.still c.in-Some.at stands
 
-pub joined-requires-clause-like : goal.joined-requires-clause-like
-joined-requires-clause-like g t c =
+pub joined-requires : goal.joined-requires
+joined-requires g t c =
     let stands = rw c.in-Some.is at c.requires.stands in
     let later_order = c.order-order.ensures.later in
     let later_read = c.read_entry-entry.ensures.later in
     let later_call = c.put_under-new.ensures.later in
     let stands_order = later_order.still c.in-Some.at stands in
     let stands_read = later_read.still c.in-Some.at stands_order in
-    later_call.still c.in-Some.at stands_read
-
-pub joined-requires-clause-child : goal.joined-requires-clause-child
-joined-requires-clause-child g t c =
-    let later_call = c.put_under-new.ensures.later in
-    later_call.child_still c.read_entry-entry.result.child c.read_entry-entry.ensures.child
-
-pub joined-requires-clause-left : goal.joined-requires-clause-left
-joined-requires-clause-left g t c =
-    c.put_under-new.ensures.stands
-
-pub joined-requires-clause-right : goal.joined-requires-clause-right
-joined-requires-clause-right g t c =
-    let later_call = c.put_under-new.ensures.later in
-    later_call.still_under c.read_entry-entry.result.right c.read_entry-entry.ensures.right
-
-pub joined-requires-clause-nearly : goal.joined-requires-clause-nearly
-joined-requires-clause-nearly g t c =
-    let stands = rw c.in-Some.is at c.requires.stands in
-    let later_order = c.order-order.ensures.later in
-    let later_read = c.read_entry-entry.ensures.later in
-    let later_call = c.put_under-new.ensures.later in
-    let stands_order = later_order.still c.in-Some.at stands in
-    let stands_read = later_read.still c.in-Some.at stands_order in
-    let whole =
-    ap (under g.K.KidPool.entries c.args.pool.now) c.in-Some.is
-    ∙ sym (later_order.same c.in-Some.at stands) ∙ c.read_entry-entry.ensures.entry in
-    put_left_ready _ _ _ _ _ _ _ _ _ _ _
-    whole c.requires.balanced c.requires.rising
-    (ap (λ e. name_cmp c.args.name.now (name_of e)) (later_order.same c.in-Some.at stands)
-    ∙ sym c.order-order.ensures.order ∙ c.in-Less.is)
-    c.put_under-new.ensures.put
-    (ap name_of (later_call.same c.in-Some.at stands_read
-    ∙ later_read.same c.in-Some.at stands_order))
-    (later_call.child_same c.read_entry-entry.result.child c.read_entry-entry.ensures.child)
-    (later_call.same_under c.read_entry-entry.result.right c.read_entry-entry.ensures.right)
+    record {
+      like = later_call.still c.in-Some.at stands_read;
+      child =
+          later_call.child_still c.read_entry-entry.result.child c.read_entry-entry.ensures.child;
+      left = c.put_under-new.ensures.stands;
+      right =
+          later_call.still_under c.read_entry-entry.result.right c.read_entry-entry.ensures.right;
+      nearly =
+          let whole =
+          ap (under g.K.KidPool.entries c.args.pool.now) c.in-Some.is
+          ∙ sym (later_order.same c.in-Some.at stands) ∙ c.read_entry-entry.ensures.entry in
+          put_left_ready _ _ _ _ _ _ _ _ _ _ _
+          whole c.requires.balanced c.requires.rising
+          (ap (λ e. name_cmp c.args.name.now (name_of e)) (later_order.same c.in-Some.at stands)
+          ∙ sym c.order-order.ensures.order ∙ c.in-Less.is)
+          c.put_under-new.ensures.put
+          (ap name_of (later_call.same c.in-Some.at stands_read
+          ∙ later_read.same c.in-Some.at stands_order))
+          (later_call.child_same c.read_entry-entry.result.child c.read_entry-entry.ensures.child)
+          (later_call.same_under c.read_entry-entry.result.right c.read_entry-entry.ensures.right);
+      places = search (arith, rules, tests);
+      records = search (arith, rules, tests);
+    }
 
 pub returns-in-Less-clause-stands : goal.returns-in-Less-clause-stands
 returns-in-Less-clause-stands g t c =
@@ -161,50 +163,36 @@ returns-in-Less-clause-later g t c =
     later_then (later_then c.order-order.ensures.later c.read_entry-entry.ensures.later)
     (later_then c.put_under-new.ensures.later c.joined.ensures.later)
 
-pub joined-requires-in-Greater-clause-like : goal.joined-requires-in-Greater-clause-like
-joined-requires-in-Greater-clause-like g t c =
+pub joined-requires-in-Greater : goal.joined-requires-in-Greater
+joined-requires-in-Greater g t c =
     let stands = rw c.in-Some.is at c.requires.stands in
     let later_order = c.order-order.ensures.later in
     let later_read = c.read_entry-entry.ensures.later in
     let later_call = c.put_under-new-in-Greater.ensures.later in
     let stands_order = later_order.still c.in-Some.at stands in
     let stands_read = later_read.still c.in-Some.at stands_order in
-    later_call.still c.in-Some.at stands_read
-
-pub joined-requires-in-Greater-clause-child : goal.joined-requires-in-Greater-clause-child
-joined-requires-in-Greater-clause-child g t c =
-    let later_call = c.put_under-new-in-Greater.ensures.later in
-    later_call.child_still c.read_entry-entry.result.child c.read_entry-entry.ensures.child
-
-pub joined-requires-in-Greater-clause-right : goal.joined-requires-in-Greater-clause-right
-joined-requires-in-Greater-clause-right g t c =
-    c.put_under-new-in-Greater.ensures.stands
-
-pub joined-requires-in-Greater-clause-left : goal.joined-requires-in-Greater-clause-left
-joined-requires-in-Greater-clause-left g t c =
-    let later_call = c.put_under-new-in-Greater.ensures.later in
-    later_call.still_under c.read_entry-entry.result.left c.read_entry-entry.ensures.left
-
-pub joined-requires-in-Greater-clause-nearly : goal.joined-requires-in-Greater-clause-nearly
-joined-requires-in-Greater-clause-nearly g t c =
-    let stands = rw c.in-Some.is at c.requires.stands in
-    let later_order = c.order-order.ensures.later in
-    let later_read = c.read_entry-entry.ensures.later in
-    let later_call = c.put_under-new-in-Greater.ensures.later in
-    let stands_order = later_order.still c.in-Some.at stands in
-    let stands_read = later_read.still c.in-Some.at stands_order in
-    let whole =
-    ap (under g.K.KidPool.entries c.args.pool.now) c.in-Some.is
-    ∙ sym (later_order.same c.in-Some.at stands) ∙ c.read_entry-entry.ensures.entry in
-    put_right_ready _ _ _ _ _ _ _ _ _ _ _
-    whole c.requires.balanced c.requires.rising
-    (ap (λ e. name_cmp c.args.name.now (name_of e)) (later_order.same c.in-Some.at stands)
-    ∙ sym c.order-order.ensures.order ∙ c.in-Greater.is)
-    c.put_under-new-in-Greater.ensures.put
-    (ap name_of (later_call.same c.in-Some.at stands_read
-    ∙ later_read.same c.in-Some.at stands_order))
-    (later_call.child_same c.read_entry-entry.result.child c.read_entry-entry.ensures.child)
-    (later_call.same_under c.read_entry-entry.result.left c.read_entry-entry.ensures.left)
+    record {
+      like = later_call.still c.in-Some.at stands_read;
+      child =
+          later_call.child_still c.read_entry-entry.result.child c.read_entry-entry.ensures.child;
+      left = later_call.still_under c.read_entry-entry.result.left c.read_entry-entry.ensures.left;
+      right = c.put_under-new-in-Greater.ensures.stands;
+      nearly =
+          let whole =
+          ap (under g.K.KidPool.entries c.args.pool.now) c.in-Some.is
+          ∙ sym (later_order.same c.in-Some.at stands) ∙ c.read_entry-entry.ensures.entry in
+          put_right_ready _ _ _ _ _ _ _ _ _ _ _
+          whole c.requires.balanced c.requires.rising
+          (ap (λ e. name_cmp c.args.name.now (name_of e)) (later_order.same c.in-Some.at stands)
+          ∙ sym c.order-order.ensures.order ∙ c.in-Greater.is)
+          c.put_under-new-in-Greater.ensures.put
+          (ap name_of (later_call.same c.in-Some.at stands_read
+          ∙ later_read.same c.in-Some.at stands_order))
+          (later_call.child_same c.read_entry-entry.result.child c.read_entry-entry.ensures.child)
+          (later_call.same_under c.read_entry-entry.result.left c.read_entry-entry.ensures.left);
+      places = search (arith, rules, tests);
+      records = search (arith, rules, tests);
+    }
 
 pub returns-in-Greater-clause-stands : goal.returns-in-Greater-clause-stands
 returns-in-Greater-clause-stands g t c =
@@ -214,38 +202,6 @@ pub returns-in-Greater-clause-later : goal.returns-in-Greater-clause-later
 returns-in-Greater-clause-later g t c =
     later_then (later_then c.order-order.ensures.later c.read_entry-entry.ensures.later)
     (later_then c.put_under-new-in-Greater.ensures.later c.joined-in-Greater.ensures.later)
-
-pub make_like-requires-clause-like : goal.make_like-requires-clause-like
-make_like-requires-clause-like g t c =
-    let stands = rw c.in-Some.is at c.requires.stands in
-    let later_order = c.order-order.ensures.later in
-    let later_read = c.read_entry-entry.ensures.later in
-    let stands_order = later_order.still c.in-Some.at stands in
-    later_read.still c.in-Some.at stands_order
-
-pub make_like-requires-clause-child : goal.make_like-requires-clause-child
-make_like-requires-clause-child g t c =
-    let later_order = c.order-order.ensures.later in
-    let later_read = c.read_entry-entry.ensures.later in
-    later_read.child_still c.args.child
-    (later_order.child_still c.args.child c.requires.child)
-
-pub make_like-requires-clause-left : goal.make_like-requires-clause-left
-make_like-requires-clause-left g t c =
-    c.read_entry-entry.ensures.left
-
-pub make_like-requires-clause-right : goal.make_like-requires-clause-right
-make_like-requires-clause-right g t c =
-    c.read_entry-entry.ensures.right
-
-pub make_like-requires-clause-balanced : goal.make_like-requires-clause-balanced
-make_like-requires-clause-balanced g t c =
-    let stands = rw c.in-Some.is at c.requires.stands in
-    let later_order = c.order-order.ensures.later in
-    let whole =
-    ap (under g.K.KidPool.entries c.args.pool.now) c.in-Some.is
-    ∙ sym (later_order.same c.in-Some.at stands) ∙ c.read_entry-entry.ensures.entry in
-    even_parts _ _ _ _ _ whole c.requires.balanced
 
 pub returns-in-Equal-clause-stands : goal.returns-in-Equal-clause-stands
 returns-in-Equal-clause-stands g t c =

@@ -40,10 +40,10 @@ right-right-requires-clause-places g t c =
     let left = ap (λ (e : Entries). kid_count (kids_of e)) c.left-left.ensures.left in
     omega (arith, all, left, c.requires.places, c.left-left.ensures.places, c.count_under-before.ensures.places)
 
-pub returns-clause-count : goal.returns-clause-count
-returns-clause-count g t c =
-    let stands = rw c.in-Some.is at c.requires.stands in
+pub returns : goal.returns
+returns g t c =
     let at = g.K.KidPool.entries c.args.pool.now c.in-Some.at in
+    let stands = rw c.in-Some.is at c.requires.stands in
     let is = g.met.K.KidPool.is_entry c.args.pool.now c.in-Some.at stands in
     let all : kid_count (kids_of (under g.K.KidPool.entries c.args.pool.now c.args.top))
     ≡ kid_count (kids_of (left_of at)) + 1 + kid_count (kids_of (right_of at)) =
@@ -52,34 +52,32 @@ returns-clause-count g t c =
     let right = ap (λ (e : Entries). kid_count (kids_of e)) (c.right-right.ensures.right
     ∙ ap right_of (c.count_under-before.ensures.later.same c.in-Some.at (c.left-left.ensures.later.still c.in-Some.at stands)
     ∙ c.left-left.ensures.later.same c.in-Some.at stands)) in
-    omega (arith, all, left, right, c.count_under-before.ensures.count, c.count_under-after.ensures.count)
-
-pub returns-clause-later : goal.returns-clause-later
-returns-clause-later g t c =
-    later_then (later_then c.left-left.ensures.later c.count_under-before.ensures.later)
-    (later_then c.right-right.ensures.later c.count_under-after.ensures.later)
-
-pub returns-clause-places : goal.returns-clause-places
-returns-clause-places g t c =
-    let stands = rw c.in-Some.is at c.requires.stands in
-    let at = g.K.KidPool.entries c.args.pool.now c.in-Some.at in
-    let is = g.met.K.KidPool.is_entry c.args.pool.now c.in-Some.at stands in
-    let all : kid_count (kids_of (under g.K.KidPool.entries c.args.pool.now c.args.top))
-    ≡ kid_count (kids_of (left_of at)) + 1 + kid_count (kids_of (right_of at)) =
-    rw c.in-Some.is (count_entry at is) in
-    let left = ap (λ (e : Entries). kid_count (kids_of e)) c.left-left.ensures.left in
-    let right = ap (λ (e : Entries). kid_count (kids_of e)) (c.right-right.ensures.right
-    ∙ ap right_of (c.count_under-before.ensures.later.same c.in-Some.at (c.left-left.ensures.later.still c.in-Some.at stands)
-    ∙ c.left-left.ensures.later.same c.in-Some.at stands)) in
-    omega (arith, all, left, right, c.left-left.ensures.places, c.count_under-before.ensures.places, c.right-right.ensures.places, c.count_under-after.ensures.places)
-
-pub returns-clause-records : goal.returns-clause-records
-returns-clause-records g t c =
-    c.count_under-after.ensures.records ∙ c.right-right.ensures.records ∙ c.count_under-before.ensures.records ∙ c.left-left.ensures.records
-
-pub returns-clause-made : goal.returns-clause-made
-returns-clause-made g t c =
-    c.count_under-after.ensures.made ∙ c.right-right.ensures.made ∙ c.count_under-before.ensures.made ∙ c.left-left.ensures.made
+    record {
+      count = omega (
+        arith,
+        all,
+        left,
+        right,
+        c.count_under-before.ensures.count,
+        c.count_under-after.ensures.count,
+      );
+      later = later_then (later_then c.left-left.ensures.later c.count_under-before.ensures.later)
+          (later_then c.right-right.ensures.later c.count_under-after.ensures.later);
+      places = omega (
+        arith,
+        all,
+        left,
+        right,
+        c.left-left.ensures.places,
+        c.count_under-before.ensures.places,
+        c.right-right.ensures.places,
+        c.count_under-after.ensures.places,
+      );
+      records = c.count_under-after.ensures.records ∙ c.right-right.ensures.records
+          ∙ c.count_under-before.ensures.records ∙ c.left-left.ensures.records;
+      made = c.count_under-after.ensures.made ∙ c.right-right.ensures.made
+          ∙ c.count_under-before.ensures.made ∙ c.left-left.ensures.made;
+    }
 
 pub count_under-before-requires : goal.count_under-before-requires
 count_under-before-requires g t c κs within =

@@ -1,4 +1,4 @@
-use Rattle.std.proofs.Common.{◌≡◌, ◌≤◌, ◌∙◌, ap, arith, rules, sym}
+use Rattle.std.proofs.Common.{◌≡◌, ◌≤◌, ◌∙◌, ap, arith, rules, sym, tests}
 use Rattle.doc_tree.specs.Tree.{IsRising, name_cmp}
 use Rattle.kids_avl.specs.Entries.{entry, height_of, kids_of, name_of}
 use Rattle.kids_avl.specs.Pool.{under}
@@ -17,45 +17,70 @@ order-order-requires-clause-places g t c =
     rw c.in-Some.is (entry_high _ is) in
     omega (arith, h, c.requires.places)
 
-pub joined-requires-clause-nearly : goal.joined-requires-clause-nearly
-joined-requires-clause-nearly g t c =
+pub joined-requires : goal.joined-requires
+joined-requires g t c =
     let stands = rw c.in-Some.is at c.requires.stands in
     let later_order = c.order-order.ensures.later in
-    let later_read = c.read_entry-entry.ensures.later in
-    let later_call = c.remove_under-new.ensures.later in
-    let stands_order = later_order.still c.in-Some.at stands in
-    let stands_read = later_read.still c.in-Some.at stands_order in
-    without_left_ready _ _ _ _ _ _ _ _ _ _
-    (ap (under g.K.KidPool.entries c.args.pool.now) c.in-Some.is
-    ∙ sym (later_order.same c.in-Some.at stands) ∙ c.read_entry-entry.ensures.entry)
-    c.requires.balanced c.requires.rising
-    (ap (λ e. name_cmp c.args.name.now (name_of e)) (later_order.same c.in-Some.at stands)
-    ∙ sym c.order-order.ensures.order ∙ c.in-Less.is)
-    c.remove_under-new.ensures.without
-    (ap name_of (later_call.same c.in-Some.at stands_read
-    ∙ later_read.same c.in-Some.at stands_order))
-    (later_call.child_same c.read_entry-entry.result.child c.read_entry-entry.ensures.child)
-    (later_call.same_under c.read_entry-entry.result.right c.read_entry-entry.ensures.right)
+    record {
+      like = c.remove_under-new.ensures.later.still c.in-Some.at
+          (c.read_entry-entry.ensures.later.still c.in-Some.at (later_order.still c.in-Some.at stands));
+      child = c.remove_under-new.ensures.later.child_still c.read_entry-entry.result.child
+          c.read_entry-entry.ensures.child;
+      left = c.remove_under-new.ensures.stands;
+      right = c.remove_under-new.ensures.later.still_under c.read_entry-entry.result.right
+          c.read_entry-entry.ensures.right;
+      nearly =
+          let later_read = c.read_entry-entry.ensures.later in
+          let later_call = c.remove_under-new.ensures.later in
+          let stands_order = later_order.still c.in-Some.at stands in
+          let stands_read = later_read.still c.in-Some.at stands_order in
+          without_left_ready _ _ _ _ _ _ _ _ _ _
+          (ap (under g.K.KidPool.entries c.args.pool.now) c.in-Some.is
+          ∙ sym (later_order.same c.in-Some.at stands) ∙ c.read_entry-entry.ensures.entry)
+          c.requires.balanced c.requires.rising
+          (ap (λ e. name_cmp c.args.name.now (name_of e)) (later_order.same c.in-Some.at stands)
+          ∙ sym c.order-order.ensures.order ∙ c.in-Less.is)
+          c.remove_under-new.ensures.without
+          (ap name_of (later_call.same c.in-Some.at stands_read
+          ∙ later_read.same c.in-Some.at stands_order))
+          (later_call.child_same c.read_entry-entry.result.child c.read_entry-entry.ensures.child)
+          (later_call.same_under c.read_entry-entry.result.right c.read_entry-entry.ensures.right);
+      places = search (arith, rules, tests);
+      records = search (arith, rules, tests);
+    }
 
-pub joined-requires-in-Greater-clause-nearly : goal.joined-requires-in-Greater-clause-nearly
-joined-requires-in-Greater-clause-nearly g t c =
+pub joined-requires-in-Greater : goal.joined-requires-in-Greater
+joined-requires-in-Greater g t c =
     let stands = rw c.in-Some.is at c.requires.stands in
     let later_order = c.order-order.ensures.later in
-    let later_read = c.read_entry-entry.ensures.later in
-    let later_call = c.remove_under-new-in-Greater.ensures.later in
-    let stands_order = later_order.still c.in-Some.at stands in
-    let stands_read = later_read.still c.in-Some.at stands_order in
-    without_right_ready _ _ _ _ _ _ _ _ _ _
-    (ap (under g.K.KidPool.entries c.args.pool.now) c.in-Some.is
-    ∙ sym (later_order.same c.in-Some.at stands) ∙ c.read_entry-entry.ensures.entry)
-    c.requires.balanced c.requires.rising
-    (ap (λ e. name_cmp c.args.name.now (name_of e)) (later_order.same c.in-Some.at stands)
-    ∙ sym c.order-order.ensures.order ∙ c.in-Greater.is)
-    c.remove_under-new-in-Greater.ensures.without
-    (ap name_of (later_call.same c.in-Some.at stands_read
-    ∙ later_read.same c.in-Some.at stands_order))
-    (later_call.child_same c.read_entry-entry.result.child c.read_entry-entry.ensures.child)
-    (later_call.same_under c.read_entry-entry.result.left c.read_entry-entry.ensures.left)
+    record {
+      like = c.remove_under-new-in-Greater.ensures.later.still c.in-Some.at
+          (c.read_entry-entry.ensures.later.still c.in-Some.at (later_order.still c.in-Some.at stands));
+      child =
+          c.remove_under-new-in-Greater.ensures.later.child_still c.read_entry-entry.result.child
+          c.read_entry-entry.ensures.child;
+      left = c.remove_under-new-in-Greater.ensures.later.still_under c.read_entry-entry.result.left
+          c.read_entry-entry.ensures.left;
+      right = c.remove_under-new-in-Greater.ensures.stands;
+      nearly =
+          let later_read = c.read_entry-entry.ensures.later in
+          let later_call = c.remove_under-new-in-Greater.ensures.later in
+          let stands_order = later_order.still c.in-Some.at stands in
+          let stands_read = later_read.still c.in-Some.at stands_order in
+          without_right_ready _ _ _ _ _ _ _ _ _ _
+          (ap (under g.K.KidPool.entries c.args.pool.now) c.in-Some.is
+          ∙ sym (later_order.same c.in-Some.at stands) ∙ c.read_entry-entry.ensures.entry)
+          c.requires.balanced c.requires.rising
+          (ap (λ e. name_cmp c.args.name.now (name_of e)) (later_order.same c.in-Some.at stands)
+          ∙ sym c.order-order.ensures.order ∙ c.in-Greater.is)
+          c.remove_under-new-in-Greater.ensures.without
+          (ap name_of (later_call.same c.in-Some.at stands_read
+          ∙ later_read.same c.in-Some.at stands_order))
+          (later_call.child_same c.read_entry-entry.result.child c.read_entry-entry.ensures.child)
+          (later_call.same_under c.read_entry-entry.result.left c.read_entry-entry.ensures.left);
+      places = search (arith, rules, tests);
+      records = search (arith, rules, tests);
+    }
 
 pub returns-in-Less-clause-without : goal.returns-in-Less-clause-without
 returns-in-Less-clause-without g t c =
@@ -211,26 +236,6 @@ read_entry-entry-requires-clause-stands g t c =
     let stands = rw c.in-Some.is at c.requires.stands in
     c.order-order.ensures.later.still c.in-Some.at stands
 
-pub joined-requires-clause-like : goal.joined-requires-clause-like
-joined-requires-clause-like g t c =
-    let stands = rw c.in-Some.is at c.requires.stands in
-    let later_order = c.order-order.ensures.later in
-    c.remove_under-new.ensures.later.still c.in-Some.at
-    (c.read_entry-entry.ensures.later.still c.in-Some.at (later_order.still c.in-Some.at stands))
-
-pub joined-requires-clause-child : goal.joined-requires-clause-child
-joined-requires-clause-child g t c =
-    c.remove_under-new.ensures.later.child_still c.read_entry-entry.result.child
-    c.read_entry-entry.ensures.child
-
-pub joined-requires-clause-left : goal.joined-requires-clause-left
-joined-requires-clause-left g t c = c.remove_under-new.ensures.stands
-
-pub joined-requires-clause-right : goal.joined-requires-clause-right
-joined-requires-clause-right g t c =
-    c.remove_under-new.ensures.later.still_under c.read_entry-entry.result.right
-    c.read_entry-entry.ensures.right
-
 pub returns-in-Less-clause-stands : goal.returns-in-Less-clause-stands
 returns-in-Less-clause-stands g t c = c.joined.ensures.stands
 
@@ -238,26 +243,6 @@ pub returns-in-Less-clause-later : goal.returns-in-Less-clause-later
 returns-in-Less-clause-later g t c =
     later_then (later_then c.order-order.ensures.later c.read_entry-entry.ensures.later)
     (later_then c.remove_under-new.ensures.later c.joined.ensures.later)
-
-pub joined-requires-in-Greater-clause-like : goal.joined-requires-in-Greater-clause-like
-joined-requires-in-Greater-clause-like g t c =
-    let stands = rw c.in-Some.is at c.requires.stands in
-    let later_order = c.order-order.ensures.later in
-    c.remove_under-new-in-Greater.ensures.later.still c.in-Some.at
-    (c.read_entry-entry.ensures.later.still c.in-Some.at (later_order.still c.in-Some.at stands))
-
-pub joined-requires-in-Greater-clause-child : goal.joined-requires-in-Greater-clause-child
-joined-requires-in-Greater-clause-child g t c =
-    c.remove_under-new-in-Greater.ensures.later.child_still c.read_entry-entry.result.child
-    c.read_entry-entry.ensures.child
-
-pub joined-requires-in-Greater-clause-right : goal.joined-requires-in-Greater-clause-right
-joined-requires-in-Greater-clause-right g t c = c.remove_under-new-in-Greater.ensures.stands
-
-pub joined-requires-in-Greater-clause-left : goal.joined-requires-in-Greater-clause-left
-joined-requires-in-Greater-clause-left g t c =
-    c.remove_under-new-in-Greater.ensures.later.still_under c.read_entry-entry.result.left
-    c.read_entry-entry.ensures.left
 
 pub returns-in-Greater-clause-stands : goal.returns-in-Greater-clause-stands
 returns-in-Greater-clause-stands g t c = c.joined-in-Greater.ensures.stands

@@ -82,8 +82,9 @@ take_logs-failed-requires-clause-room g c =
     let room = c.requires.opened.room_for_logs in
     omega (arith, own, many, room)
 
-pub totals_of-totals-requires-clause-few : goal.totals_of-totals-requires-clause-few
-totals_of-totals-requires-clause-few g c =
+pub totals_of-totals-requires : goal.totals_of-totals-requires
+totals_of-totals-requires g c =
+    let o = c.args.options.now in
     let store = c.args.opened.store in
     let opened = c.requires.opened.store in
     let limits = c.client_limits-limits.result in
@@ -102,55 +103,19 @@ totals_of-totals-requires-clause-few g c =
     let same = ap (λ (gs : List ClientLog). length gs) c.deref.ensures.value in
     let many = left.taken.many in
     let few = c.requires.opened.few in
-    omega (arith, same, many, few)
-
-pub totals_of-totals-requires-clause-short : goal.totals_of-totals-requires-clause-short
-totals_of-totals-requires-clause-short g c =
-    let store = c.args.opened.store in
-    let opened = c.requires.opened.store in
-    let limits = c.client_limits-limits.result in
-    let scripts = c.args.scripts.now in
-    let workers = c.run_workers-workers.result.0.items in
-    let logs = c.take_logs-failed.new.logs.items in
-    let closed = c.close-closed.result.0 in
-    let is = c.close-closed.ensures.closed.has_closed in
-    let left = have_left store.heap limits scripts workers
-    (all_done _ (λ (n : ℕ) (w : Worker Pass Client). IsDone store.heap limits scripts n w)
-    (λ place old new has. has) 0 store.workers.items workers
-    c.run_workers-workers.ensures.done)
-    (c.run_workers-workers.ensures.many ∙ opened.many) c.close-closed.result.1.items logs
-    c.take_logs-failed.result closed.passes.places is.places_are c.close-closed.ensures.own
-    c.take_logs-failed.ensures.logs c.take_logs-failed.ensures.failed in
-    subst (λ (gs : List ClientLog). All (λ (log : ClientLog). length log.entries ≤ 100_000) gs)
-    (sym c.deref.ensures.value) (short_logs scripts logs c.requires.short left.fronts)
-
-pub totals_of-totals-requires-clause-freed : goal.totals_of-totals-requires-clause-freed
-totals_of-totals-requires-clause-freed g c = c.close-closed.ensures.closed.has_closed.few_freed
-
-pub totals_of-totals-requires-clause-counted : goal.totals_of-totals-requires-clause-counted
-totals_of-totals-requires-clause-counted g c =
-    let o = c.args.options.now in
-    let store = c.args.opened.store in
-    let opened = c.requires.opened.store in
-    let limits = c.client_limits-limits.result in
-    let scripts = c.args.scripts.now in
-    let workers = c.run_workers-workers.result.0.items in
-    let logs = c.take_logs-failed.new.logs.items in
-    let closed = c.close-closed.result.0 in
-    let is = c.close-closed.ensures.closed.has_closed in
-    let left = have_left store.heap limits scripts workers
-    (all_done _ (λ (n : ℕ) (w : Worker Pass Client). IsDone store.heap limits scripts n w)
-    (λ place old new has. has) 0 store.workers.items workers
-    c.run_workers-workers.ensures.done)
-    (c.run_workers-workers.ensures.many ∙ opened.many) c.close-closed.result.1.items logs
-    c.take_logs-failed.result closed.passes.places is.places_are c.close-closed.ensures.own
-    c.take_logs-failed.ensures.logs c.take_logs-failed.ensures.failed in
-    counted o (lists_of scripts) logs closed.image closed.passes
-    (closing o scripts store.heap.shape limits logs (lists_of scripts) closed.passes
-    opened.shape_is c.requires.some c.requires.options c.client_limits-limits.ensures.limits
-    left.taken (many_lists scripts))
-    store.heap.shape (shaped o scripts store.heap.shape opened.shape_is) is.ended is.shows
-    closed.number_freed is.number_freed_is
+    record {
+      few = omega (arith, same, many, few);
+      short = subst (λ (gs : List ClientLog).
+          All (λ (log : ClientLog). length log.entries ≤ 100_000) gs)
+          (sym c.deref.ensures.value) (short_logs scripts logs c.requires.short left.fronts);
+      freed = is.few_freed;
+      counted = counted o (lists_of scripts) logs closed.image closed.passes
+          (closing o scripts store.heap.shape limits logs (lists_of scripts) closed.passes
+          opened.shape_is c.requires.some c.requires.options c.client_limits-limits.ensures.limits
+          left.taken (many_lists scripts))
+          store.heap.shape (shaped o scripts store.heap.shape opened.shape_is) is.ended is.shows
+          closed.number_freed is.number_freed_is;
+    }
 
 pub returns : goal.returns
 returns g c =

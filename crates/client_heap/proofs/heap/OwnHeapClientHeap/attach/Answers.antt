@@ -8,14 +8,14 @@ pub invariant_of-self : goal.invariant_of-self
 invariant_of-self g c =
     let left = rw c.heap_mut.ensures.heap at c.attach.ensures.leaves in
     let few = rw c.heap_mut.ensures.heap at c.attach.ensures.records in
-    let bound = g.M.DocumentSeat.bound in
+    let bound = g.M.ClientSeat.bound in
     let was = c.args.self.now in
     let did = c.attach.ensures in
     let room = c.requires.room in
     let same = left.records_room in
     let fits = was.copies in
     record {
-      sound = left_sound (bound was.m.now) (bound c.attach.new.self) was.nursery.now.heap
+      sound = left_sound (bound was.m.now) (bound c.attach.new.m) was.nursery.now.heap
           c.attach.new.minor left was.draft was.base was.sound few did.held (omega (arith, room));
       whole =
           let room = left.records_room in
@@ -27,23 +27,23 @@ pub returns-clause-edits : goal.returns-clause-edits
 returns-clause-edits g c =
     let left = rw c.heap_mut.ensures.heap at c.attach.ensures.leaves in
     let few = rw c.heap_mut.ensures.heap at c.attach.ensures.records in
-    let bound = g.M.DocumentSeat.bound in
+    let bound = g.M.ClientSeat.bound in
     let was = c.args.self.now in
     let did = c.attach.ensures in
-    left_edits (bound was.m.now) (bound c.attach.new.self) was.nursery.now.heap c.attach.new.minor
+    left_edits (bound was.m.now) (bound c.attach.new.m) was.nursery.now.heap c.attach.new.minor
     left was.draft was.base was.sound few did.held
 
 pub returns-clause-still : goal.returns-clause-still
 returns-clause-still g c =
     let left = rw c.heap_mut.ensures.heap at c.attach.ensures.leaves in
-    let bound = g.M.DocumentSeat.bound in
+    let bound = g.M.ClientSeat.bound in
     let was = c.args.self.now in
-    left_still (bound was.m.now) (bound c.attach.new.self) was.nursery.now.heap c.attach.new.minor
+    left_still (bound was.m.now) (bound c.attach.new.m) was.nursery.now.heap c.attach.new.minor
     left
 
 pub returns-clause-lent : goal.returns-clause-lent
 returns-clause-lent g c =
     let left = rw c.heap_mut.ensures.heap at c.attach.ensures.leaves in
-    let bound = g.M.DocumentSeat.bound in
-    lent_stays (bound c.args.self.now.m.now) (bound c.attach.new.self) (left_same _ _ _ _ left) refl
+    let bound = g.M.ClientSeat.bound in
+    lent_stays (bound c.args.self.now.m.now) (bound c.attach.new.m) (left_same _ _ _ _ left) refl
     left.records_room refl

@@ -7,7 +7,7 @@ use Rattle.client_heap.proofs.heap.OwnHeapClientHeap.current.Goals as goal
 pub invariant_of-self : goal.invariant_of-self
 invariant_of-self g c =
     let ordered = rw c.heap.ensures.heap at c.len-records.ensures.ordered in
-    let bound = g.M.DocumentSeat.bound in
+    let bound = g.M.ClientSeat.bound in
     let was = c.args.self.now in
     let did = c.current-found.ensures in
     record {
@@ -21,7 +21,7 @@ invariant_of-self g c =
 pub returns-clause-rests : goal.returns-clause-rests
 returns-clause-rests g c =
     let ordered = rw c.heap.ensures.heap at c.len-records.ensures.ordered in
-    let bound = g.M.DocumentSeat.bound in
+    let bound = g.M.ClientSeat.bound in
     let was = c.args.self.now in
     let did = c.current-found.ensures in
     holds_rests (bound was.m.now) (bound c.current-found.new.self) was.nursery.now.heap
@@ -31,7 +31,7 @@ returns-clause-rests g c =
 pub returns-clause-still : goal.returns-clause-still
 returns-clause-still g c =
     let ordered = rw c.heap.ensures.heap at c.len-records.ensures.ordered in
-    let bound = g.M.DocumentSeat.bound in
+    let bound = g.M.ClientSeat.bound in
     let was = c.args.self.now in
     let did = c.current-found.ensures in
     holds_still (bound was.m.now) (bound c.current-found.new.self) was.nursery.now.heap
@@ -39,7 +39,7 @@ returns-clause-still g c =
 
 pub returns-clause-lent : goal.returns-clause-lent
 returns-clause-lent g c =
-    let bound = g.M.DocumentSeat.bound in
+    let bound = g.M.ClientSeat.bound in
     let did = c.current-found.ensures in
     lent_stays (bound c.args.self.now.m.now) (bound c.current-found.new.self) did.same refl refl
     refl

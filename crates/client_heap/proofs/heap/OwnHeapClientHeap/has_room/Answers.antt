@@ -4,7 +4,7 @@ use Rattle.client_heap.proofs.heap.OwnHeapClientHeap.has_room.Goals as goal
 
 pub returns : goal.returns
 returns g c =
-    let bound = g.M.DocumentSeat.bound in
+    let bound = g.M.ClientSeat.bound in
     let was = c.args.self.now in
     let found = rw c.heap.ensures.heap at c.has_room.ensures.room in
     record {

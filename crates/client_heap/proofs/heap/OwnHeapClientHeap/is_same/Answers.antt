@@ -6,7 +6,7 @@ use Rattle.client_heap.proofs.heap.OwnHeapClientHeap.is_same.Goals as goal
 pub invariant_of-self : goal.invariant_of-self
 invariant_of-self g c =
     let carried = rw c.heap.ensures.heap at c.is_same.ensures.carries in
-    let bound = g.M.DocumentSeat.bound in
+    let bound = g.M.ClientSeat.bound in
     let was = c.args.self.now in
     record {
       sound = sound_on _ (bound was.m.now) (bound c.is_same.new.self) was.nursery.now.heap
@@ -18,7 +18,7 @@ invariant_of-self g c =
 pub returns-in-Shared-Shared-clause-rests : goal.returns-in-Shared-Shared-clause-rests
 returns-in-Shared-Shared-clause-rests g c =
     let carried = rw c.heap.ensures.heap at c.is_same.ensures.carries in
-    let bound = g.M.DocumentSeat.bound in
+    let bound = g.M.ClientSeat.bound in
     let was = c.args.self.now in
     let did = c.is_same.ensures in
     let same = did.held in
@@ -29,7 +29,7 @@ returns-in-Shared-Shared-clause-rests g c =
 pub returns-in-Shared-Shared-clause-still : goal.returns-in-Shared-Shared-clause-still
 returns-in-Shared-Shared-clause-still g c =
     let carried = rw c.heap.ensures.heap at c.is_same.ensures.carries in
-    let bound = g.M.DocumentSeat.bound in
+    let bound = g.M.ClientSeat.bound in
     let was = c.args.self.now in
     still_on (bound was.m.now) (bound c.is_same.new.self) was.nursery.now.heap was.nursery.now.heap
     carried

@@ -10,7 +10,7 @@ returns-clause-unmoved g c = λ room spare.
 
 pub returns-clause-idle : goal.returns-clause-idle
 returns-clause-idle g c =
-    let bound = g.M.DocumentSeat.bound in
+    let bound = g.M.ClientSeat.bound in
     let was = c.args.self.now in
     idle_state (bound was.m.now) (bound c.make_room_for.new.self) was.nursery.now
     c.make_room_for.new.nursery was.draft c.make_room_for.new.draft was.base
@@ -18,7 +18,7 @@ returns-clause-idle g c =
 
 pub returns-clause-still : goal.returns-clause-still
 returns-clause-still g c =
-    let bound = g.M.DocumentSeat.bound in
+    let bound = g.M.ClientSeat.bound in
     let was = c.args.self.now in
     idle_still (bound was.m.now) (bound c.make_room_for.new.self) was.nursery.now
     c.make_room_for.new.nursery was.draft c.make_room_for.new.draft was.base
@@ -26,7 +26,7 @@ returns-clause-still g c =
 
 pub returns-clause-lent : goal.returns-clause-lent
 returns-clause-lent g c =
-    let bound = g.M.DocumentSeat.bound in
+    let bound = g.M.ClientSeat.bound in
     let did = c.make_room_for.ensures in
     lent_stays (bound c.args.self.now.m.now) (bound c.make_room_for.new.self) did.follows.same
     did.queue did.follows.minor_room did.promoter

@@ -7,7 +7,7 @@ use Rattle.client_heap.proofs.heap.OwnHeapClientHeap.older.Goals as goal
 pub invariant_of-self : goal.invariant_of-self
 invariant_of-self g c =
     let ordered = rw c.heap.ensures.heap at c.len-records.ensures.ordered in
-    let bound = g.M.DocumentSeat.bound in
+    let bound = g.M.ClientSeat.bound in
     let was = c.args.self.now in
     record {
       sound = older_sound (bound was.m.now) (bound c.older.new.self) was.nursery.now.heap
@@ -20,7 +20,7 @@ invariant_of-self g c =
 pub returns-in-Ok-clause-rests : goal.returns-in-Ok-clause-rests
 returns-in-Ok-clause-rests g c =
     let ordered = rw c.heap.ensures.heap at c.len-records.ensures.ordered in
-    let bound = g.M.DocumentSeat.bound in
+    let bound = g.M.ClientSeat.bound in
     let was = c.args.self.now in
     let did = c.in-Ok.ensures.older in
     holds_rests (bound was.m.now) (bound c.older.new.self) was.nursery.now.heap (did.cell ∷ [])
@@ -30,7 +30,7 @@ returns-in-Ok-clause-rests g c =
 pub returns-in-Ok-clause-still : goal.returns-in-Ok-clause-still
 returns-in-Ok-clause-still g c =
     let ordered = rw c.heap.ensures.heap at c.len-records.ensures.ordered in
-    let bound = g.M.DocumentSeat.bound in
+    let bound = g.M.ClientSeat.bound in
     let was = c.args.self.now in
     let did = c.in-Ok.ensures.older in
     holds_still (bound was.m.now) (bound c.older.new.self) was.nursery.now.heap (did.cell ∷ [])
@@ -39,7 +39,7 @@ returns-in-Ok-clause-still g c =
 pub returns-in-Err-clause-rests : goal.returns-in-Err-clause-rests
 returns-in-Err-clause-rests g c =
     let ordered = rw c.heap.ensures.heap at c.len-records.ensures.ordered in
-    let bound = g.M.DocumentSeat.bound in
+    let bound = g.M.ClientSeat.bound in
     let was = c.args.self.now in
     holds_rests (bound was.m.now) (bound c.older.new.self) was.nursery.now.heap []
     c.in-Err.ensures.held ordered c.older.ensures.lasts c.older.ensures.same was.draft was.base
@@ -48,19 +48,19 @@ returns-in-Err-clause-rests g c =
 pub returns-in-Err-clause-still : goal.returns-in-Err-clause-still
 returns-in-Err-clause-still g c =
     let ordered = rw c.heap.ensures.heap at c.len-records.ensures.ordered in
-    let bound = g.M.DocumentSeat.bound in
+    let bound = g.M.ClientSeat.bound in
     let was = c.args.self.now in
     holds_still (bound was.m.now) (bound c.older.new.self) was.nursery.now.heap []
     c.in-Err.ensures.held ordered c.older.ensures.lasts c.older.ensures.same
 
 pub returns-in-Ok-clause-lent : goal.returns-in-Ok-clause-lent
 returns-in-Ok-clause-lent g c =
-    let bound = g.M.DocumentSeat.bound in
+    let bound = g.M.ClientSeat.bound in
     let did = c.older.ensures in
     lent_stays (bound c.args.self.now.m.now) (bound c.older.new.self) did.same refl refl refl
 
 pub returns-in-Err-clause-lent : goal.returns-in-Err-clause-lent
 returns-in-Err-clause-lent g c =
-    let bound = g.M.DocumentSeat.bound in
+    let bound = g.M.ClientSeat.bound in
     let did = c.older.ensures in
     lent_stays (bound c.args.self.now.m.now) (bound c.older.new.self) did.same refl refl refl

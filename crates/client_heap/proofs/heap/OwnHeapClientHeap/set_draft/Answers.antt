@@ -5,7 +5,7 @@ use Rattle.doc_records.specs.Trees.{tree_of}
 
 pub returns-clause-lent : goal.returns-clause-lent
 returns-clause-lent g c =
-    let bound = g.M.DocumentSeat.bound in
+    let bound = g.M.ClientSeat.bound in
     let did = c.make_draft.ensures in
     lent_stays (bound c.args.self.now.m.now) (bound c.make_draft.new.self) did.follows.same refl
     refl refl

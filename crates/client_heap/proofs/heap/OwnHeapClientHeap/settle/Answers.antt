@@ -7,18 +7,18 @@ pub cut_newer-requires : goal.cut_newer-requires
 cut_newer-requires g c =
     let was = c.args.self.now in
     record {
-      there = sound_there (g.M.DocumentSeat.bound was.m.now) was.nursery.now.heap was.draft was.base
+      there = sound_there (g.M.ClientSeat.bound was.m.now) was.nursery.now.heap was.draft was.base
           was.sound;
     }
 
 pub invariant_of-self : goal.invariant_of-self
 invariant_of-self g c =
     let carried = rw c.heap.ensures.heap at c.cut_back.ensures.carries in
-    let bound = g.M.DocumentSeat.bound in
+    let bound = g.M.ClientSeat.bound in
     let was = c.args.self.now in
     let did = c.cut_newer.ensures in
     record {
-      sound = cut_sound (bound was.m.now) (bound c.cut_back.new.self) was.nursery.now.heap
+      sound = cut_sound (bound was.m.now) (bound c.cut_back.new.m) was.nursery.now.heap
           c.cut_newer.new.nursery.heap was.draft was.base was.sound carried did.node did.room
           did.fewer;
       whole = did.room ∙ was.whole ∙ sym did.records;
@@ -28,11 +28,11 @@ invariant_of-self g c =
 pub returns-clause-gives_back : goal.returns-clause-gives_back
 returns-clause-gives_back g c =
     let carried = rw c.heap.ensures.heap at c.cut_back.ensures.carries in
-    let bound = g.M.DocumentSeat.bound in
+    let bound = g.M.ClientSeat.bound in
     let was = c.args.self.now in
     let did = c.cut_newer.ensures in
     let gave = c.cut_back.ensures in
-    gives_back (bound was.m.now) (bound c.cut_back.new.self) was.nursery.now.heap
+    gives_back (bound was.m.now) (bound c.cut_back.new.m) was.nursery.now.heap
     c.cut_newer.new.nursery.heap was.draft was.base was.sound carried did.node did.room did.fewer
     gave.pass gave.claims gave.held
 
@@ -46,7 +46,7 @@ returns-clause-room g c =
 
 pub returns-clause-lent : goal.returns-clause-lent
 returns-clause-lent g c =
-    let bound = g.M.DocumentSeat.bound in
+    let bound = g.M.ClientSeat.bound in
     let did = c.cut_back.ensures in
-    lent_stays (bound c.args.self.now.m.now) (bound c.cut_back.new.self) did.carries.follows.same
+    lent_stays (bound c.args.self.now.m.now) (bound c.cut_back.new.m) did.carries.follows.same
     refl c.cut_newer.ensures.room refl

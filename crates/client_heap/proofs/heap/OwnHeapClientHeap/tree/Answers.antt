@@ -7,7 +7,7 @@ use Rattle.client_heap.proofs.heap.OwnHeapClientHeap.tree.Goals as goal
 pub invariant_of-self : goal.invariant_of-self
 invariant_of-self g c =
     let ordered = rw c.heap.ensures.heap at c.len-records.ensures.ordered in
-    let bound = g.M.DocumentSeat.bound in
+    let bound = g.M.ClientSeat.bound in
     let was = c.args.self.now in
     let did = c.tree.ensures in
     record {
@@ -21,7 +21,7 @@ invariant_of-self g c =
 pub returns-clause-rests : goal.returns-clause-rests
 returns-clause-rests g c =
     let ordered = rw c.heap.ensures.heap at c.len-records.ensures.ordered in
-    let bound = g.M.DocumentSeat.bound in
+    let bound = g.M.ClientSeat.bound in
     let was = c.args.self.now in
     let did = c.tree.ensures in
     holds_rests (bound was.m.now) (bound c.tree.new.self) was.nursery.now.heap (did.root.cell ∷ [])
@@ -31,7 +31,7 @@ returns-clause-rests g c =
 pub returns-clause-still : goal.returns-clause-still
 returns-clause-still g c =
     let ordered = rw c.heap.ensures.heap at c.len-records.ensures.ordered in
-    let bound = g.M.DocumentSeat.bound in
+    let bound = g.M.ClientSeat.bound in
     let was = c.args.self.now in
     let did = c.tree.ensures in
     holds_still (bound was.m.now) (bound c.tree.new.self) was.nursery.now.heap (did.root.cell ∷ [])
@@ -39,6 +39,6 @@ returns-clause-still g c =
 
 pub returns-clause-lent : goal.returns-clause-lent
 returns-clause-lent g c =
-    let bound = g.M.DocumentSeat.bound in
+    let bound = g.M.ClientSeat.bound in
     let did = c.tree.ensures in
     lent_stays (bound c.args.self.now.m.now) (bound c.tree.new.self) did.same refl refl refl

@@ -6,7 +6,7 @@ use Rattle.client_heap.proofs.heap.OwnHeapClientHeap.trim.Goals as goal
 pub invariant_of-self : goal.invariant_of-self
 invariant_of-self g c =
     let ordered = rw c.heap.ensures.heap at c.len-records.ensures.ordered in
-    let bound = g.M.DocumentSeat.bound in
+    let bound = g.M.ClientSeat.bound in
     let was = c.args.self.now in
     let did = c.trim.ensures in
     record {
@@ -19,7 +19,7 @@ invariant_of-self g c =
 pub returns-clause-rests : goal.returns-clause-rests
 returns-clause-rests g c =
     let ordered = rw c.heap.ensures.heap at c.len-records.ensures.ordered in
-    let bound = g.M.DocumentSeat.bound in
+    let bound = g.M.ClientSeat.bound in
     let was = c.args.self.now in
     let did = c.trim.ensures in
     holds_rests (bound was.m.now) (bound c.trim.new.self) was.nursery.now.heap [] did.held ordered
@@ -31,6 +31,6 @@ returns-clause-rests g c =
 
 pub returns-clause-lent : goal.returns-clause-lent
 returns-clause-lent g c =
-    let bound = g.M.DocumentSeat.bound in
+    let bound = g.M.ClientSeat.bound in
     let did = c.trim.ensures in
     lent_stays (bound c.args.self.now.m.now) (bound c.trim.new.self) did.same refl refl refl

@@ -1,4 +1,4 @@
-use Rattle.std.proofs.Common.{◌∙◌, ap, arith, length, subst, sym}
+use Rattle.std.proofs.Common.{◌∙◌, ap, arith, length, subst, sym, rules, tests}
 use Rattle.kids_avl.specs.Entries.{IsBalanced}
 use Rattle.kids_avl.proofs.Turns.{same_entry}
 use Rattle.doc_records.specs.Texts.{SpellsText}
@@ -25,58 +25,42 @@ make_text-written-requires-clause-records g c =
       c.requires.records,
     )
 
-pub make_entry-requires-clause-name : goal.make_entry-requires-clause-name
-make_entry-requires-clause-name g c =
-    name_made _ c.args.name.now
-    (subst (SpellsText _) c.bytes.ensures.bytes c.make_text-written.ensures.text)
-    c.bytes.ensures.name
-
-pub make_entry-requires-clause-child : goal.make_entry-requires-clause-child
-make_entry-requires-clause-child g c =
+pub make_entry-requires : goal.make_entry-requires
+make_entry-requires g c =
     let later = c.make_text-written.ensures.later in
     record {
-      node = node_still _ _ c.args.child later c.requires.child.node;
-      place = omega (arith, later.room, c.make_text-written.ensures.held, c.requires.child.place);
+      written = search (arith, rules, tests);
+      name = name_made _ c.args.name.now
+          (subst (SpellsText _) c.bytes.ensures.bytes c.make_text-written.ensures.text)
+          c.bytes.ensures.name;
+      child = record {
+        node = node_still _ _ c.args.child later c.requires.child.node;
+        place = omega (arith, later.room, c.make_text-written.ensures.held, c.requires.child.place);
+      };
+      left = side_still g.R.RecordPool.shown c.args.self.now _ _ _ later
+          (omega (arith, later.room, c.make_text-written.ensures.held, c.requires.child.place))
+          c.part_of.ensures c.requires.left;
+      right = side_still g.R.RecordPool.shown c.args.self.now _ _ _ later
+          (omega (arith, later.room, c.make_text-written.ensures.held, c.requires.child.place))
+          c.part_of-2.ensures c.requires.right;
+      balanced =
+          let shown = g.R.RecordPool.shown in
+          let same = same_entry _ _ _ _ _ _ _ _ (name_spelled _ c.args.name.now
+          (subst (SpellsText _) c.bytes.ensures.bytes c.make_text-written.ensures.text)
+          c.bytes.ensures.name)
+          (ap tree_of (later.same c.args.child c.requires.child.node.stands))
+          (side_same shown c.args.self.now _ _ _ later c.part_of.ensures c.requires.left)
+          (side_same shown c.args.self.now _ _ _ later c.part_of-2.ensures c.requires.right) in
+          subst IsBalanced (sym same) c.requires.balanced;
+      few = omega (arith, c.requires.records);
+      records = omega (
+        arith,
+        ap length c.bytes.ensures.bytes,
+        name_low c.args.name.now c.bytes.ensures.name,
+        c.make_text-written.ensures.records,
+        c.requires.records,
+      );
     }
-
-pub make_entry-requires-clause-left : goal.make_entry-requires-clause-left
-make_entry-requires-clause-left g c =
-    let later = c.make_text-written.ensures.later in
-    side_still g.R.RecordPool.shown c.args.self.now _ _ _ later
-    (omega (arith, later.room, c.make_text-written.ensures.held, c.requires.child.place))
-    c.part_of.ensures c.requires.left
-
-pub make_entry-requires-clause-right : goal.make_entry-requires-clause-right
-make_entry-requires-clause-right g c =
-    let later = c.make_text-written.ensures.later in
-    side_still g.R.RecordPool.shown c.args.self.now _ _ _ later
-    (omega (arith, later.room, c.make_text-written.ensures.held, c.requires.child.place))
-    c.part_of-2.ensures c.requires.right
-
-pub make_entry-requires-clause-balanced : goal.make_entry-requires-clause-balanced
-make_entry-requires-clause-balanced g c =
-    let later = c.make_text-written.ensures.later in
-    let shown = g.R.RecordPool.shown in
-    let same = same_entry _ _ _ _ _ _ _ _ (name_spelled _ c.args.name.now
-    (subst (SpellsText _) c.bytes.ensures.bytes c.make_text-written.ensures.text)
-    c.bytes.ensures.name)
-    (ap tree_of (later.same c.args.child c.requires.child.node.stands))
-    (side_same shown c.args.self.now _ _ _ later c.part_of.ensures c.requires.left)
-    (side_same shown c.args.self.now _ _ _ later c.part_of-2.ensures c.requires.right) in
-    subst IsBalanced (sym same) c.requires.balanced
-
-pub make_entry-requires-clause-few : goal.make_entry-requires-clause-few
-make_entry-requires-clause-few g c = omega (arith, c.requires.records)
-
-pub make_entry-requires-clause-records : goal.make_entry-requires-clause-records
-make_entry-requires-clause-records g c =
-    omega (
-      arith,
-      ap length c.bytes.ensures.bytes,
-      name_low c.args.name.now c.bytes.ensures.name,
-      c.make_text-written.ensures.records,
-      c.requires.records,
-    )
 
 pub returns-clause-entry : goal.returns-clause-entry
 returns-clause-entry g c =

@@ -9,16 +9,18 @@ use Rattle.local_records.proofs.local.LocalRecords.make.Goals as goal
 
 pub returns-in-Ok-clause-local : goal.returns-in-Ok-clause-local
 returns-in-Ok-clause-local c known so shares =
+    let me = c.self.inside in
     let was = subst (λ (l : Local). IsLocal l known) (sym c.self.view_is) so in
     let fields = fields_of c.args.kinds c.args.words in
+    let step = c.named_with-named.ensures in
     let next = c.named_with-named.result in
-    let within = c.named_with-named.ensures.least (length known) was.within
+    let within = step.least (length known) was.within
     (fields_known known fields shares) in
     subst
     (λ (rs : List (List MinorField)).
-    AreLocal known next rs c.self.inside.table.copied c.self.inside.table.places c.self.inside.stack.roots)
+    AreLocal known next rs me.table.copied me.table.places me.stack.roots)
     (sym (c.in-Ok.ensures.records
     ∙ ap (λ (h : Nursery). h.records ++ fields ∷ []) c.heap_mut.ensures.heap))
-    (local_made known c.self.inside.named c.self.inside.nursery.heap.records c.self.inside.table.copied
-    c.self.inside.table.places c.self.inside.stack.roots was next c.named_with-named.ensures.more within fields
-    shares c.named_with-named.ensures.below)
+    (local_made known me.named me.nursery.heap.records me.table.copied
+    me.table.places me.stack.roots was next step.more within fields
+    shares step.below)

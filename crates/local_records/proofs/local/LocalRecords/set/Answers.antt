@@ -8,14 +8,16 @@ use Rattle.local_records.proofs.local.LocalRecords.set.Goals as goal
 
 pub returns-clause-local : goal.returns-clause-local
 returns-clause-local c known so le =
+    let me = c.self.inside in
     let was = subst (λ (l : Local). IsLocal l known) (sym c.self.view_is) so in
+    let step = c.named_with-self-inside.ensures in
     let next = c.named_with-self-inside.result in
-    let within = c.named_with-self-inside.ensures.least (length known) was.within
+    let within = step.least (length known) was.within
     (root_wider c.args.held (length known) c.args.root le c.requires.there) in
-    local_roots known c.self.inside.named c.self.inside.nursery.heap.records c.self.inside.table.copied
-    c.self.inside.table.places c.self.inside.stack.roots was next c.named_with-self-inside.ensures.more within
+    local_roots known me.named me.nursery.heap.records me.table.copied
+    me.table.places me.stack.roots was next step.more within
     c.set.new.self.roots
     (subst (λ (xs : List Root). All (IsRootBelow next) xs)
     (sym (ap (λ (s : Stack). s.roots) c.set.ensures.set))
-    (roots_set c.self.inside.named next c.self.inside.stack.roots c.args.i c.args.root
-    c.named_with-self-inside.ensures.more was.below c.named_with-self-inside.ensures.below))
+    (roots_set me.named next me.stack.roots c.args.i c.args.root
+    step.more was.below step.below))

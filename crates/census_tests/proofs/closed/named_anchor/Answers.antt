@@ -1,6 +1,0 @@
-use Rattle.cell_words.specs.declared.fields.Field.TheVariants as field
-use Rattle.census_tests.proofs.Boxes.{one_box}
-use Rattle.census_tests.proofs.closed.named_anchor.Goals as goal
-
-pub closed-requires-clause-boxes : goal.closed-requires-clause-boxes
-closed-requires-clause-boxes c = one_box (field.Cell 0) field.Null

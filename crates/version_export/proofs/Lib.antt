@@ -1,4 +1,0 @@
-pub mod Keeping
-pub mod Listing
-pub mod Looking
-pub mod Turns

@@ -1,5 +1,0 @@
-pub mod Lines
-pub mod Looks
-pub mod Outcome
-pub mod Still
-pub mod Walks
