@@ -1,6 +1,9 @@
 pub mod Claims
 pub mod Crossing
+pub mod Enduring
+pub mod Lengths
 pub mod Making
+pub mod Naming
 pub mod OfCollecting
 pub mod OfMine
 pub mod Owner

@@ -1,7 +1,9 @@
 -- What a mutator's handle owns between two calls.
 -- Source: this project's.
-use Rattle.std.specs.Prelude.{◌≡◌, ◌≤◌, true}
+use Rattle.std.specs.Prelude.{◌≡◌, ◌≤◌, true, false, List}
+use Rattle.heap_rule.specs.declared.known.Known.{Known}
 use Rattle.heap_table.specs.Seats.{HeapId, SeatView}
+use Rattle.local_records.specs.Local.{IsLocal, Local}
 use Rattle.mutator_seat.specs.Bound.{Bound, IsBound, bound}
 use Rattle.sorted_boxes.specs.Holding.{HoldsAs}
 use Rattle.sorted_boxes.specs.Sorts.{Serves, SortList}
@@ -22,3 +24,19 @@ pub record IsMine (heap : HeapId) (seat : SeatView Sorting) (sorts : SortList) :
   pub some : 1 ≤ sorts.boxes
   pub serves : Serves sorts seat.me
   pub held : seat.me.presence.inside ≡ true → HoldsAs sorts seat.me
+
+-- and its private records
+pub record Owned : Type 0 where
+  pub held : Held
+  pub local : Local
+
+abbrev pub owned_by : HeapId → SeatView Sorting → SortList → Local → Owned
+owned_by heap seat sorts local = record { held = held_by heap seat sorts; local = local }
+
+-- Besides, the private records are in force by what it knows of its places; of who is out they name
+-- none.
+pub record IsOwned (heap : HeapId) (seat : SeatView Sorting) (sorts : SortList) (local : Local)
+    : Type 0 where
+  pub mine : IsMine heap seat sorts
+  pub inside : seat.me.presence.inside ≡ true → IsLocal local seat.me.known
+  pub outside : seat.me.presence.inside ≡ false → (known : List Known) → IsLocal local known

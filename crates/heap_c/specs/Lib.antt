@@ -4,7 +4,9 @@ pub mod Claiming
 pub mod Handles
 pub mod Holding
 pub mod Keeping
+pub mod Keeps
 pub mod Lending
 pub mod Owning
+pub mod Records
 pub mod Refusing
 pub mod Seating

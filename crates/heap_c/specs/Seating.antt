@@ -4,7 +4,7 @@ use Rattle.std.specs.Prelude.{ℕ, ◌≡◌, ◌<◌, ◌≤◌, ◌⊎◌, Opt
 use Rattle.heap_c.specs.Keeping.{Keeps}
 use Rattle.heap_c.specs.declared.codes.Code.{Code}
 use Rattle.heap_c.specs.declared.codes.Code.TheVariants as code
-use Rattle.heap_c.specs.Holding.{Held}
+use Rattle.heap_c.specs.Holding.{Owned}
 
 -- of a call that needs no more than a handle
 abbrev pub when_there : Option Keeps → Code
@@ -34,7 +34,7 @@ Opens cells mutators stack boxes was given code.NoMemory =
 Opens cells mutators stack boxes was given _ = ⊥
 
 -- of a seat that is asked for
-abbrev pub Seats : (room : ℕ) → Keeps → (was given : Option (Held)) → Code → Type 0
+abbrev pub Seats : (room : ℕ) → Keeps → (was given : Option Owned) → Code → Type 0
 Seats room k was given code.Ok =
     (was ≡ None) × ((8 ≤ room) × ((k.given < k.heap.shape.mutators) × IsSome given))
 Seats room k was given code.NoSeat = (k.heap.shape.mutators ≤ k.given) × (given ≡ was)

@@ -1,6 +1,7 @@
 //! The calls of a mutator that is in.
 ghost use Rattle.std.specs.Prelude.{◌≡◌, length};
-ghost use Rattle.heap_c.specs.Calls.{KeepsChosen, MakesCell, SwapsField, WritesField};
+ghost use Rattle.heap_c.specs.Calls.{SwapsField, WritesField};
+ghost use Rattle.heap_c.specs.Keeps.{KeepsAbove, OnHeld};
 ghost use Rattle.heap_c.specs.Handles.{AreVals, GivesAll, GivesKept, GivesPlace, GivesSame, GivesVal};
 ghost use Rattle.heap_c.specs.Handles.{Numbered, OfHandle, OfHandleOr};
 
@@ -10,7 +11,7 @@ use crate::values::{HeapVal, val_of};
 use mutator_seat::Value;
 
 fn keep(mutator: &mut HeapMut, n: usize, place: usize, count: usize) -> Code
-    ensures kept { OfHandle (λ old new c. KeepsChosen old new n place count c) mutator.old.mine
+    ensures kept { OfHandle (λ old new c. KeepsAbove old new n place count c) mutator.old.mine
         mutator.new.mine result }
 {
     match mutator.mine() {
@@ -20,7 +21,7 @@ fn keep(mutator: &mut HeapMut, n: usize, place: usize, count: usize) -> Code
 }
 
 fn make(mutator: &mut HeapMut, vals: &[HeapVal], place: &mut usize) -> Code
-    ensures made { OfHandleOr (place.new ≡ place.old) (λ old new c. GivesPlace vals.now place.old place.new old new c)
+    ensures made { OfHandleOr (place.new ≡ place.old) (OnHeld (λ old new c. GivesPlace vals.now place.old place.new old new c))
         mutator.old.mine mutator.new.mine result }
 {
     match mutator.mine() {
@@ -52,7 +53,7 @@ fn make_at(mutator: &mut HeapMut, first: usize, vals: &[HeapVal], place: &mut us
 }
 
 fn read(mutator: &mut HeapMut, place: usize, field: usize, out: &mut HeapVal) -> Code
-    ensures read { OfHandleOr (out.new ≡ out.old) (λ old new c. GivesVal place field out.old out.new old new c)
+    ensures read { OfHandleOr (out.new ≡ out.old) (OnHeld (λ old new c. GivesVal place field out.old out.new old new c))
         mutator.old.mine mutator.new.mine result }
 {
     match mutator.mine() {
@@ -80,7 +81,7 @@ fn give_five(values: [Value; 5], out: &mut [HeapVal])
 }
 
 fn read_all(mutator: &mut HeapMut, place: usize, out: &mut [HeapVal]) -> Code
-    ensures read { OfHandleOr (out.new ≡ out.old) (λ old new c. GivesAll place out.old out.new old new c)
+    ensures read { OfHandleOr (out.new ≡ out.old) (OnHeld (λ old new c. GivesAll place out.old out.new old new c))
         mutator.old.mine mutator.new.mine result }
 {
     match mutator.mine() {
@@ -96,7 +97,7 @@ fn read_all(mutator: &mut HeapMut, place: usize, out: &mut [HeapVal]) -> Code
 }
 
 fn write(mutator: &mut HeapMut, place: usize, field: usize, val: HeapVal) -> Code
-    ensures wrote { OfHandle (λ old new c. WritesField old new place field val c) mutator.old.mine
+    ensures wrote { OfHandle (OnHeld (λ old new c. WritesField old new place field val c)) mutator.old.mine
         mutator.new.mine result }
 {
     match mutator.mine() {
@@ -106,7 +107,7 @@ fn write(mutator: &mut HeapMut, place: usize, field: usize, val: HeapVal) -> Cod
 }
 
 fn swap(mutator: &mut HeapMut, place: usize, field: usize, was: HeapVal, now: HeapVal) -> Code
-    ensures swapped { OfHandle (λ old new c. SwapsField old new place field was now c)
+    ensures swapped { OfHandle (OnHeld (λ old new c. SwapsField old new place field was now c))
         mutator.old.mine mutator.new.mine result }
 {
     match mutator.mine() {
@@ -116,7 +117,7 @@ fn swap(mutator: &mut HeapMut, place: usize, field: usize, was: HeapVal, now: He
 }
 
 fn same(mutator: &mut HeapMut, one: usize, other: usize, same: &mut i32) -> Code
-    ensures same { OfHandleOr (same.new ≡ same.old) (λ old new c. GivesSame one other same.old same.new old new c)
+    ensures same { OfHandleOr (same.new ≡ same.old) (OnHeld (λ old new c. GivesSame one other same.old same.new old new c))
         mutator.old.mine mutator.new.mine result }
 {
     match mutator.mine() {
@@ -134,7 +135,7 @@ fn same(mutator: &mut HeapMut, one: usize, other: usize, same: &mut i32) -> Code
 /// Keeps the first n places, and then so many from a place on.
 #[unsafe(no_mangle)]
 pub extern "C" fn heap_keep(mutator: &mut HeapMut, n: usize, place: usize, count: usize) -> i32
-    ensures kept { Numbered result (OfHandle (λ old new c. KeepsChosen old new n place count c)
+    ensures kept { Numbered result (OfHandle (λ old new c. KeepsAbove old new n place count c)
         mutator.old.mine mutator.new.mine) }
 {
     keep(mutator, n, place, count).number()
@@ -143,8 +144,8 @@ pub extern "C" fn heap_keep(mutator: &mut HeapMut, n: usize, place: usize, count
 /// Makes a cell with these values, the other fields null.
 #[unsafe(no_mangle)]
 pub extern "C" fn heap_make(mutator: &mut HeapMut, vals: &[HeapVal], place: &mut usize) -> i32
-    ensures made { Numbered result (OfHandleOr (place.new ≡ place.old) (λ old new c. GivesPlace vals.now place.old place.new old
-        new c) mutator.old.mine mutator.new.mine) }
+    ensures made { Numbered result (OfHandleOr (place.new ≡ place.old) (OnHeld (λ old new c. GivesPlace vals.now place.old place.new old
+        new c)) mutator.old.mine mutator.new.mine) }
 {
     make(mutator, vals, place).number()
 }
@@ -171,8 +172,8 @@ pub extern "C" fn heap_read(
     field: usize,
     out: &mut HeapVal,
 ) -> i32
-    ensures read { Numbered result (OfHandleOr (out.new ≡ out.old) (λ old new c. GivesVal place field out.old out.new old new
-        c) mutator.old.mine mutator.new.mine) }
+    ensures read { Numbered result (OfHandleOr (out.new ≡ out.old) (OnHeld (λ old new c. GivesVal place field out.old out.new old new
+        c)) mutator.old.mine mutator.new.mine) }
 {
     read(mutator, place, field, out).number()
 }
@@ -180,8 +181,8 @@ pub extern "C" fn heap_read(
 /// Reads all fields, one after the other.
 #[unsafe(no_mangle)]
 pub extern "C" fn heap_read_all(mutator: &mut HeapMut, place: usize, out: &mut [HeapVal]) -> i32
-    ensures read { Numbered result (OfHandleOr (out.new ≡ out.old) (λ old new c. GivesAll place out.old out.new old new
-        c) mutator.old.mine mutator.new.mine) }
+    ensures read { Numbered result (OfHandleOr (out.new ≡ out.old) (OnHeld (λ old new c. GivesAll place out.old out.new old new
+        c)) mutator.old.mine mutator.new.mine) }
 {
     read_all(mutator, place, out).number()
 }
@@ -189,7 +190,7 @@ pub extern "C" fn heap_read_all(mutator: &mut HeapMut, place: usize, out: &mut [
 /// Stores a value in a field, whatever stands there.
 #[unsafe(no_mangle)]
 pub extern "C" fn heap_write(mutator: &mut HeapMut, place: usize, field: usize, val: HeapVal) -> i32
-    ensures wrote { Numbered result (OfHandle (λ old new c. WritesField old new place field val c)
+    ensures wrote { Numbered result (OfHandle (OnHeld (λ old new c. WritesField old new place field val c))
         mutator.old.mine mutator.new.mine) }
 {
     write(mutator, place, field, val).number()
@@ -204,7 +205,7 @@ pub extern "C" fn heap_swap(
     was: HeapVal,
     now: HeapVal,
 ) -> i32
-    ensures swapped { Numbered result (OfHandle (λ old new c. SwapsField old new place field was now c)
+    ensures swapped { Numbered result (OfHandle (OnHeld (λ old new c. SwapsField old new place field was now c))
         mutator.old.mine mutator.new.mine) }
 {
     swap(mutator, place, field, was, now).number()
@@ -218,8 +219,8 @@ pub extern "C" fn heap_same(
     other: usize,
     is_same: &mut i32,
 ) -> i32
-    ensures same { Numbered result (OfHandleOr (is_same.new ≡ is_same.old) (λ old new c. GivesSame one other is_same.old is_same.new
-        old new c) mutator.old.mine mutator.new.mine) }
+    ensures same { Numbered result (OfHandleOr (is_same.new ≡ is_same.old) (OnHeld (λ old new c. GivesSame one other is_same.old is_same.new
+        old new c)) mutator.old.mine mutator.new.mine) }
 {
     same(mutator, one, other, is_same).number()
 }

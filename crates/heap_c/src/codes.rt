@@ -31,8 +31,12 @@ pub enum Code {
     Spent = 13,
     /// a size is 0 or too large
     BadSize = 14,
-    /// what is to be set is a handle already
+    /// what is to be set is a handle already, or has private records already
     NotZero = 15,
+    /// there is no room for one more private record
+    NoRecords = 16,
+    /// it was done in part
+    Part = 17,
 }
 
 impl Code {

@@ -8,6 +8,7 @@ use crate::rule::Rule;
 use crate::sharing::{Sharing, Unnoted};
 use crate::works::{Counts, How, Works, work};
 use cell_heap::{CellHeap, NoMemory};
+use local_records::LocalRecords;
 use sorted_boxes::Sorts;
 use std::alloc::Global;
 use std::marker::Model;
@@ -97,9 +98,10 @@ impl Collecting {
             return Err(NoMemory);
         };
         let sorts = Sorts::with_room(alloc, self.boxes, room as usize)?;
+        let local = LocalRecords::with_room(alloc, 0, 0)?;
         let seat = works.seat.split(alloc, &self.heap, self.given, room)?;
         self.given += 1;
-        Ok(Mine::new(heap, sharing, seat, sorts, start))
+        Ok(Mine::new(heap, sharing, seat, sorts, local, start))
     }
 
     /// Makes at most so many moves.

@@ -1,7 +1,8 @@
 //! Coming in, going out, answering, and leaving; and how many places a mutator has.
 ghost use Rattle.std.specs.Prelude.{◌≡◌, None, pos};
 ghost use Rattle.heap_c.specs.Answers.{when_in, when_out};
-ghost use Rattle.heap_c.specs.Calls.{ComesIn, GoesOut, ReachesSafePoint};
+ghost use Rattle.heap_c.specs.Calls.{ComesIn, ReachesSafePoint};
+ghost use Rattle.heap_c.specs.Keeps.{EndsAll, OnHeld};
 ghost use Rattle.heap_c.specs.Handles.{Numbered, OfHandle, number_of, places_free, places_held};
 ghost use Rattle.heap_c.specs.declared.codes.Code.TheVariants as code;
 
@@ -10,7 +11,7 @@ use crate::handle::HeapMut;
 use std::alloc::Global;
 
 fn begin(mutator: &mut HeapMut) -> Code
-    ensures begun { OfHandle ComesIn mutator.old.mine mutator.new.mine result }
+    ensures begun { OfHandle (OnHeld ComesIn) mutator.old.mine mutator.new.mine result }
 {
     match mutator.mine() {
         None => Code::NoHandle,
@@ -20,7 +21,7 @@ fn begin(mutator: &mut HeapMut) -> Code
 
 fn end(mutator: &mut HeapMut) -> Code
     ensures answer { result ≡ when_in mutator.old.mine }
-    ensures ended { OfHandle GoesOut mutator.old.mine mutator.new.mine result }
+    ensures ended { OfHandle EndsAll mutator.old.mine mutator.new.mine result }
 {
     match mutator.mine() {
         None => Code::NoHandle,
@@ -30,7 +31,7 @@ fn end(mutator: &mut HeapMut) -> Code
 
 fn answer(mutator: &mut HeapMut) -> Code
     ensures answer { result ≡ when_in mutator.old.mine }
-    ensures answered { OfHandle ReachesSafePoint mutator.old.mine mutator.new.mine result }
+    ensures answered { OfHandle (OnHeld ReachesSafePoint) mutator.old.mine mutator.new.mine result }
 {
     match mutator.mine() {
         None => Code::NoHandle,
@@ -65,7 +66,7 @@ fn leave(alloc: Global, mutator: &mut HeapMut) -> Code
 /// Comes in. The mutator holds the anchor alone.
 #[unsafe(no_mangle)]
 pub extern "C" fn heap_begin(mutator: &mut HeapMut) -> i32
-    ensures begun { Numbered result (OfHandle ComesIn mutator.old.mine mutator.new.mine) }
+    ensures begun { Numbered result (OfHandle (OnHeld ComesIn) mutator.old.mine mutator.new.mine) }
 {
     begin(mutator).number()
 }
@@ -73,7 +74,7 @@ pub extern "C" fn heap_begin(mutator: &mut HeapMut) -> i32
 /// Goes out. The mutator holds nothing.
 #[unsafe(no_mangle)]
 pub extern "C" fn heap_end(mutator: &mut HeapMut) -> i32
-    ensures ended { Numbered result (OfHandle GoesOut mutator.old.mine mutator.new.mine) }
+    ensures ended { Numbered result (OfHandle EndsAll mutator.old.mine mutator.new.mine) }
 {
     end(mutator).number()
 }
@@ -81,7 +82,7 @@ pub extern "C" fn heap_end(mutator: &mut HeapMut) -> i32
 /// The safe point.
 #[unsafe(no_mangle)]
 pub extern "C" fn heap_answer(mutator: &mut HeapMut) -> i32
-    ensures answered { Numbered result (OfHandle ReachesSafePoint mutator.old.mine
+    ensures answered { Numbered result (OfHandle (OnHeld ReachesSafePoint) mutator.old.mine
         mutator.new.mine) }
 {
     answer(mutator).number()

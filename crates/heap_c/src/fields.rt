@@ -5,6 +5,7 @@ ghost use Rattle.std.specs.Bool.{OnFalse, OnTrue};
 ghost use Rattle.heap_c.specs.Calls.{ComparesPlaces, ReadsAllFields, ReadsField, SwapsField};
 ghost use Rattle.heap_c.specs.Calls.{WritesField};
 ghost use Rattle.heap_c.specs.Holding.{IsMine, held_by};
+ghost use Rattle.record_copying.specs.Copies.{StillRecords};
 ghost use Rattle.sorted_boxes.specs.Sorts.{holds_record};
 
 use crate::codes::Code;
@@ -25,6 +26,9 @@ pub(crate) fn read(
 ) -> Result<Value, Code>
     requires mine { IsMine heap.now seat.old sorts.old }
     ensures mine { IsMine heap.now seat.new sorts.new }
+    ensures records { StillRecords seat.old.me.known seat.new.me.known }
+    ensures longer { length seat.old.me.known ≤ length seat.new.me.known }
+    ensures inside { seat.new.me.presence.inside ≡ seat.old.me.presence.inside }
     ensures read { ReadsField (held_by heap.now seat.old sorts.old) (held_by heap.now seat.new sorts.new) place field
         result }
 {
@@ -40,7 +44,9 @@ pub(crate) fn read(
     if seat.room() < 1 {
         return Err(Code::NoRoom);
     }
-    Ok(reading::read(heap, seat, sorts, place, field))
+    let value = reading::read(heap, seat, sorts, place, field);
+    let _held = seat.held_len();
+    Ok(value)
 }
 
 /// Reads all five.
@@ -53,6 +59,9 @@ pub(crate) fn read_all(
 ) -> Result<[Value; 5], Code>
     requires mine { IsMine heap.now seat.old sorts.old }
     ensures mine { IsMine heap.now seat.new sorts.new }
+    ensures records { StillRecords seat.old.me.known seat.new.me.known }
+    ensures longer { length seat.old.me.known ≤ length seat.new.me.known }
+    ensures inside { seat.new.me.presence.inside ≡ seat.old.me.presence.inside }
     ensures read { ReadsAllFields (held_by heap.now seat.old sorts.old) (held_by heap.now seat.new sorts.new) place five
         result }
 {
@@ -68,7 +77,9 @@ pub(crate) fn read_all(
     if seat.room() < FIELDS {
         return Err(Code::NoRoom);
     }
-    Ok(reading::read_all(heap, seat, sorts, place))
+    let values = reading::read_all(heap, seat, sorts, place);
+    let _held = seat.held_len();
+    Ok(values)
 }
 
 /// Whether a box is held at this place, where so many are held.
@@ -91,6 +102,9 @@ pub(crate) fn write(
 ) -> Code
     requires mine { IsMine heap.now seat.old sorts.now }
     ensures mine { IsMine heap.now seat.new sorts.now }
+    ensures records { StillRecords seat.old.me.known seat.new.me.known }
+    ensures longer { length seat.old.me.known ≤ length seat.new.me.known }
+    ensures inside { seat.new.me.presence.inside ≡ seat.old.me.presence.inside }
     ensures wrote { WritesField (held_by heap.now seat.old sorts.now) (held_by heap.now seat.new sorts.now) place field val
         result }
 {
@@ -112,11 +126,9 @@ pub(crate) fn write(
     if !sorts.fits(place, field, value) {
         return Code::BadValue;
     }
-    if writing::write(heap, seat, sorts, place, field, value) {
-        Code::Ok
-    } else {
-        Code::Moved
-    }
+    let written = writing::write(heap, seat, sorts, place, field, value);
+    let _held = seat.held_len();
+    if written { Code::Ok } else { Code::Moved }
 }
 
 /// Exchanges what a field holds, if it is as expected.
@@ -131,6 +143,9 @@ pub(crate) fn swap(
 ) -> Code
     requires mine { IsMine heap.now seat.old sorts.now }
     ensures mine { IsMine heap.now seat.new sorts.now }
+    ensures records { StillRecords seat.old.me.known seat.new.me.known }
+    ensures longer { length seat.old.me.known ≤ length seat.new.me.known }
+    ensures inside { seat.new.me.presence.inside ≡ seat.old.me.presence.inside }
     ensures swapped { SwapsField (held_by heap.now seat.old sorts.now) (held_by heap.now seat.new sorts.now) place field was
         now result }
 {
@@ -152,11 +167,9 @@ pub(crate) fn swap(
     if !sorts.fits(place, field, value) {
         return Code::BadValue;
     }
-    if writing::swap(heap, seat, sorts, place, field, expected, value) {
-        Code::Ok
-    } else {
-        Code::Moved
-    }
+    let swapped = writing::swap(heap, seat, sorts, place, field, expected, value);
+    let _held = seat.held_len();
+    if swapped { Code::Ok } else { Code::Moved }
 }
 
 /// Whether two places hold one cell.
@@ -169,6 +182,9 @@ pub(crate) fn is_same(
 ) -> Result<bool, Code>
     requires mine { IsMine heap.now seat.old sorts.now }
     ensures mine { IsMine heap.now seat.new sorts.now }
+    ensures records { StillRecords seat.old.me.known seat.new.me.known }
+    ensures longer { length seat.old.me.known ≤ length seat.new.me.known }
+    ensures inside { seat.new.me.presence.inside ≡ seat.old.me.presence.inside }
     ensures same { ComparesPlaces (held_by heap.now seat.old sorts.now) (held_by heap.now seat.new sorts.now) one other
         result }
 {
@@ -179,5 +195,7 @@ pub(crate) fn is_same(
     if !is_place(one, seat.held_len()) || !is_place(other, seat.held_len()) {
         return Err(Code::BadPlace);
     }
-    Ok(placing::is_same(heap, seat, one, other))
+    let same = placing::is_same(heap, seat, one, other);
+    let _held = seat.held_len();
+    Ok(same)
 }

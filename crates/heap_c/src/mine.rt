@@ -1,9 +1,15 @@
 //! What a mutator's handle owns: its seat, and a share of the heap that the seat is of.
-ghost use Rattle.std.specs.Prelude.{◌≡◌, ◌≤◌, ◌+◌, if◌then◌else◌, length, false};
-ghost use Rattle.heap_c.specs.Calls.{ComesIn, ComparesPlaces, GoesOut, KeepsChosen, MakesAt, MakesCell};
+ghost use Rattle.std.specs.Prelude.{◌≡◌, ◌≤◌, ◌+◌, [], if◌then◌else◌, List, OnErr, OnOk, length, false};
+ghost use Rattle.std.specs.Bool.{OnFalse, OnTrue};
+ghost use Rattle.heap_c.specs.Calls.{ComesIn, ComparesPlaces, MakesCell};
 ghost use Rattle.heap_c.specs.Calls.{ReachesSafePoint, ReadsAllFields, ReadsField, SwapsField};
 ghost use Rattle.heap_c.specs.Calls.{WritesField};
-ghost use Rattle.heap_c.specs.Holding.{held_by};
+ghost use Rattle.heap_c.specs.Holding.{owned_by};
+ghost use Rattle.heap_c.specs.Keeps.{EndsAll, KeepsAbove, MakesAbove};
+ghost use Rattle.heap_c.specs.Records.{GetsAllFields, GetsField, MakesRecord, PopsRoots, PushesRoot};
+ghost use Rattle.heap_c.specs.Records.{SetsRoot, TellsRoot};
+ghost use Rattle.heap_rule.specs.declared.known.Known.{Known};
+ghost use Rattle.local_records.specs.Local.{IsLocal};
 ghost use Rattle.heap_c.specs.declared.codes.Code.TheVariants as code;
 ghost use Rattle.heap_table.specs.Seats.{IsSeatOf};
 ghost use Rattle.heap_rule.specs.Asks.{MayComeIn};
@@ -13,9 +19,10 @@ use crate::claiming::{Looks, Waiting};
 use crate::codes::Code;
 use crate::rule::Rule;
 use crate::sharing::Sharing;
-use crate::values::HeapVal;
-use crate::{fields, using};
+use crate::values::{HeapVal, REF, val_of, vals_of};
+use crate::{owned, records, rooting};
 use heap_table::CellHeap;
+use local_records::{LocalRecords, NoMemory};
 use mutator_events::MutSeat;
 use mutator_seat::{Value, operations};
 use sorted_boxes::Sorts;
@@ -30,21 +37,22 @@ pub struct Mine {
     sharing: Arc<Sharing, Global>,
     seat: MutSeat<Rule>,
     sorts: Sorts,
+    local: LocalRecords,
     wait: Waiting,
 }
 
 impl Model for Mine {
     ghost use Rattle.std.specs.Coded.{codes};
     ghost use Rattle.cell_words.specs.contracts.terms.Term as term;
-    ghost use Rattle.heap_c.specs.Holding.{Held, IsMine, held_by};
+    ghost use Rattle.heap_c.specs.Holding.{IsOwned, Owned, owned_by};
 
-    ghost Value = { Held };
+    ghost Value = { Owned };
 
     ghost coded = { Prim.hlevel (codes, term.the_row.coded) };
 
-    ghost view = { λ m. held_by m.heap.value m.seat m.sorts };
+    ghost view = { λ m. owned_by m.heap.value m.seat m.sorts m.local };
 
-    ghost invariant = { λ m. IsMine m.heap.value m.seat m.sorts };
+    ghost invariant = { λ m. IsOwned m.heap.value m.seat m.sorts m.local };
 }
 
 impl Mine {
@@ -54,13 +62,15 @@ impl Mine {
         sharing: Arc<Sharing, Global>,
         seat: MutSeat<Rule>,
         sorts: Sorts,
+        local: LocalRecords,
         start: u32,
     ) -> Mine
         requires seat { IsSeatOf heap.value seat }
         requires out { MayComeIn seat.me }
         requires some { 1 ≤ sorts.boxes }
         requires serves { Serves sorts seat.me }
-        ensures mine { result ≡ held_by heap.value seat sorts }
+        requires local { (known : List Known) → IsLocal local known }
+        ensures mine { result ≡ owned_by heap.value seat sorts local }
     {
         // Who is out has begun no write.
         let _inside = seat.is_in();
@@ -69,6 +79,7 @@ impl Mine {
             sharing,
             seat,
             sorts,
+            local,
             wait: Waiting {
                 began: None,
                 looks: Looks {
@@ -81,63 +92,75 @@ impl Mine {
 
     /// Whether it is in.
     pub(crate) fn is_in(&self) -> bool
-        ensures inside { result ≡ self.now.bound.seat.me.presence.inside }
+        ensures inside { result ≡ self.now.held.bound.seat.me.presence.inside }
     {
         self.seat.is_in()
     }
 
     /// How many cells it holds, counted by place.
     pub(crate) fn held_len(&self) -> usize
-        ensures len { result ≡ length self.now.bound.seat.me.own.held }
+        ensures len { result ≡ length self.now.held.bound.seat.me.own.held }
     {
         self.seat.held_len()
     }
 
     /// How many places are free.
     pub(crate) fn room(&self) -> usize
-        ensures room { length self.now.bound.seat.me.own.held + result ≡ self.now.bound.seat.me.room }
+        ensures room { length self.now.held.bound.seat.me.own.held + result ≡ self.now.held.bound.seat.me.room }
     {
         self.seat.room()
     }
 
     /// Comes in.
     pub(crate) fn begin(&mut self) -> Code
-        ensures begun { ComesIn self.old self.new result }
+        ensures begun { ComesIn self.old.held self.new.held result }
+        ensures local { self.new.local ≡ self.old.local }
     {
-        using::begin(&self.heap, &mut self.seat, &self.sorts)
+        owned::begin(&self.heap, &mut self.seat, &self.sorts, &self.local)
     }
 
     /// Goes out.
     pub(crate) fn end(&mut self) -> Code
-        ensures answer { result ≡ (if self.old.bound.seat.me.presence.inside then code.Ok else code.NotIn) }
-        ensures ended { GoesOut self.old self.new result }
+        ensures answer { result ≡ (if self.old.held.bound.seat.me.presence.inside then code.Ok else code.NotIn) }
+        ensures ended { EndsAll self.old self.new result }
     {
-        using::end(&self.heap, &mut self.seat, &self.sorts)
+        owned::end(&self.heap, &mut self.seat, &self.sorts, &mut self.local)
     }
 
     /// Answers a handshake, if one is asked for.
     pub(crate) fn answer(&mut self) -> Code
-        ensures answer { result ≡ (if self.old.bound.seat.me.presence.inside then code.Ok else code.NotIn) }
-        ensures answered { ReachesSafePoint self.old self.new result }
+        ensures answer { result ≡ (if self.old.held.bound.seat.me.presence.inside then code.Ok else code.NotIn) }
+        ensures answered { ReachesSafePoint self.old.held self.new.held result }
+        ensures local { self.new.local ≡ self.old.local }
     {
-        using::answer(&self.heap, &mut self.seat, &self.sorts)
+        owned::answer(&self.heap, &mut self.seat, &self.sorts, &self.local)
     }
 
     /// Keeps the first n places, and behind them so many from a place on.
     pub(crate) fn keep(&mut self, n: usize, place: usize, count: usize) -> Code
-        ensures kept { KeepsChosen self.old self.new n place count result }
+        ensures kept { KeepsAbove self.old self.new n place count result }
     {
-        using::keep(&self.heap, &mut self.seat, &mut self.sorts, n, place, count)
+        owned::keep(
+            &self.heap,
+            &mut self.seat,
+            &mut self.sorts,
+            &self.local,
+            n,
+            place,
+            count,
+        )
     }
 
     /// Makes a box.
     pub(crate) fn make(&mut self, vals: &[HeapVal]) -> Result<usize, Code>
-        ensures made { MakesCell self.old self.new vals.now result }
+        ensures made { MakesCell self.old.held self.new.held vals.now result }
+        ensures local { self.new.local ≡ self.old.local }
     {
-        using::make(
+        owned::make(
             &self.heap,
             &mut self.seat,
             &mut self.sorts,
+            &self.local,
             &self.sharing,
             &mut self.wait,
             vals,
@@ -146,12 +169,13 @@ impl Mine {
 
     /// Makes a box, and keeps the first places and it alone.
     pub(crate) fn make_at(&mut self, first: usize, vals: &[HeapVal]) -> Code
-        ensures made { MakesAt self.old self.new first vals.now result }
+        ensures made { MakesAbove self.old self.new first vals.now result }
     {
-        using::make_at(
+        owned::make_at(
             &self.heap,
             &mut self.seat,
             &mut self.sorts,
+            &self.local,
             &self.sharing,
             &mut self.wait,
             first,
@@ -161,33 +185,60 @@ impl Mine {
 
     /// Reads one field.
     pub(crate) fn read(&mut self, place: usize, field: usize) -> Result<Value, Code>
-        ensures read { ReadsField self.old self.new place field result }
+        ensures read { ReadsField self.old.held self.new.held place field result }
+        ensures local { self.new.local ≡ self.old.local }
     {
-        fields::read(&self.heap, &mut self.seat, &mut self.sorts, place, field)
+        owned::read(
+            &self.heap,
+            &mut self.seat,
+            &mut self.sorts,
+            &self.local,
+            place,
+            field,
+        )
     }
 
     /// Reads all five, which are so many.
     pub(crate) fn read_all(&mut self, place: usize, five: usize) -> Result<[Value; 5], Code>
-        ensures read { ReadsAllFields self.old self.new place five result }
+        ensures read { ReadsAllFields self.old.held self.new.held place five result }
+        ensures local { self.new.local ≡ self.old.local }
     {
-        fields::read_all(&self.heap, &mut self.seat, &mut self.sorts, place, five)
+        owned::read_all(
+            &self.heap,
+            &mut self.seat,
+            &mut self.sorts,
+            &self.local,
+            place,
+            five,
+        )
     }
 
     /// Stores a value.
     pub(crate) fn write(&mut self, place: usize, field: usize, val: HeapVal) -> Code
-        ensures wrote { WritesField self.old self.new place field val result }
+        ensures wrote { WritesField self.old.held self.new.held place field val result }
+        ensures local { self.new.local ≡ self.old.local }
     {
-        fields::write(&self.heap, &mut self.seat, &self.sorts, place, field, val)
+        owned::write(
+            &self.heap,
+            &mut self.seat,
+            &self.sorts,
+            &self.local,
+            place,
+            field,
+            val,
+        )
     }
 
     /// Exchanges a value.
     pub(crate) fn swap(&mut self, place: usize, field: usize, was: HeapVal, now: HeapVal) -> Code
-        ensures swapped { SwapsField self.old self.new place field was now result }
+        ensures swapped { SwapsField self.old.held self.new.held place field was now result }
+        ensures local { self.new.local ≡ self.old.local }
     {
-        fields::swap(
+        owned::swap(
             &self.heap,
             &mut self.seat,
             &self.sorts,
+            &self.local,
             place,
             field,
             was,
@@ -197,14 +248,131 @@ impl Mine {
 
     /// Whether two places hold one cell.
     pub(crate) fn is_same(&mut self, one: usize, other: usize) -> Result<bool, Code>
-        ensures same { ComparesPlaces self.old self.new one other result }
+        ensures same { ComparesPlaces self.old.held self.new.held one other result }
+        ensures local { self.new.local ≡ self.old.local }
     {
-        fields::is_same(&self.heap, &mut self.seat, &self.sorts, one, other)
+        owned::is_same(
+            &self.heap,
+            &mut self.seat,
+            &self.sorts,
+            &self.local,
+            one,
+            other,
+        )
+    }
+
+    /// Whether it has room for private records.
+    pub(crate) fn has_records(&self) -> bool
+        ensures has { OnTrue result (1 ≤ self.now.local.room) }
+        ensures none { OnFalse result (self.now.local.room ≡ 0) }
+    {
+        0 < self.local.spare() || 0 < self.local.len()
+    }
+
+    /// Gets room for so many private records, and for so many roots.
+    pub(crate) fn give_records(
+        &mut self,
+        alloc: Global,
+        records: u32,
+        roots: u32,
+    ) -> Result<(), NoMemory>
+        requires out { self.old.held.bound.seat.me.presence.inside ≡ false }
+        ensures held { self.new.held ≡ self.old.held }
+        ensures room { OnOk result (self.new.local.room ≡ records) }
+        ensures most { OnOk result (self.new.local.most ≡ roots) }
+        ensures empty { OnOk result (self.new.local.records ≡ []) }
+        ensures rootless { OnOk result (self.new.local.roots ≡ []) }
+        ensures unchanged { OnErr result (self.new ≡ self.old) }
+    {
+        self.local = LocalRecords::with_room(alloc, records, roots as usize)?;
+        Ok(())
+    }
+
+    /// Makes a private record.
+    pub(crate) fn new_record(&mut self, kinds: u64, words: [u64; 5]) -> Result<HeapVal, Code>
+        ensures made { MakesRecord self.old self.new.local kinds words result }
+        ensures held { self.new.held ≡ self.old.held }
+    {
+        records::make(
+            &self.heap,
+            &self.seat,
+            &self.sorts,
+            &mut self.local,
+            kinds,
+            words,
+        )
+    }
+
+    /// A field of a private record, or of the cell at a place.
+    pub(crate) fn get(&mut self, of: HeapVal, field: usize) -> Result<HeapVal, Code>
+        ensures got { GetsField self.old self.new of field result }
+    {
+        if of.tag == REF {
+            match self.read(of.n as usize, field) {
+                Ok(value) => Ok(val_of(value)),
+                Err(code) => Err(code),
+            }
+        } else {
+            records::get(&self.seat, &self.local, of, field)
+        }
+    }
+
+    /// All five fields, which are so many.
+    pub(crate) fn get_all(&mut self, of: HeapVal, five: usize) -> Result<[HeapVal; 5], Code>
+        ensures got { GetsAllFields self.old self.new of five result }
+    {
+        if of.tag == REF {
+            match self.read_all(of.n as usize, five) {
+                Ok(values) => Ok(vals_of(values)),
+                Err(code) => Err(code),
+            }
+        } else {
+            records::get_all(&self.seat, &self.local, of, five)
+        }
+    }
+
+    /// How many roots are kept.
+    pub(crate) fn roots_len(&self) -> usize
+        ensures count { result ≡ length self.now.local.roots }
+    {
+        self.local.roots_len()
+    }
+
+    /// One more root.
+    pub(crate) fn push(&mut self, val: HeapVal) -> Code
+        ensures pushed { PushesRoot self.old self.new.local val result }
+        ensures held { self.new.held ≡ self.old.held }
+    {
+        rooting::push(&self.heap, &self.seat, &self.sorts, &mut self.local, val)
+    }
+
+    /// Lets the newest n roots go.
+    pub(crate) fn pop(&mut self, n: usize) -> Code
+        ensures popped { PopsRoots self.old self.new.local n result }
+        ensures held { self.new.held ≡ self.old.held }
+    {
+        rooting::pop(&self.heap, &self.seat, &self.sorts, &mut self.local, n)
+    }
+
+    /// A root.
+    pub(crate) fn root(&mut self, i: usize) -> Result<HeapVal, Code>
+        ensures told { TellsRoot self.old i result }
+        ensures unchanged { self.new ≡ self.old }
+    {
+        rooting::root(&self.heap, &self.seat, &self.sorts, &self.local, i)
+    }
+
+    /// Another root in place of one.
+    pub(crate) fn set(&mut self, i: usize, val: HeapVal) -> Code
+        ensures set { SetsRoot self.old self.new.local i val result }
+        ensures held { self.new.held ≡ self.old.held }
+    {
+        rooting::set(&self.heap, &self.seat, &self.sorts, &mut self.local, i, val)
     }
 
     /// Is over: the collector waits for it no more.
     pub(crate) fn finish(self)
-        requires out { self.bound.seat.me.presence.inside ≡ false }
+        requires out { self.held.bound.seat.me.presence.inside ≡ false }
     {
         let Mine { heap, mut seat, .. } = self;
         operations::finish(&heap, &mut seat);

@@ -1,10 +1,12 @@
 //! What a mutator does for C: each function tests what it is given, and answers why it did nothing.
-ghost use Rattle.std.specs.Prelude.{◌≡◌, ◌<◌, false, if◌then◌else◌, ℕ};
+ghost use Rattle.std.specs.Prelude.{◌≡◌, ◌<◌, ◌≤◌, false, if◌then◌else◌, length, ℕ};
 ghost use Rattle.std.specs.Bool.{OnFalse, OnTrue};
 ghost use Rattle.cell_making.specs.Makes.{value_at};
 ghost use Rattle.heap_c.specs.Calls.{ComesIn, GoesOut, KeepsChosen, MakesAt, MakesCell};
 ghost use Rattle.heap_c.specs.Calls.{ReachesSafePoint};
 ghost use Rattle.heap_c.specs.Holding.{IsMine, held_by};
+ghost use Rattle.record_copying.specs.Copies.{StillRecords};
+ghost use Rattle.sorted_boxes.specs.Calls.{KeepsRecords};
 ghost use Rattle.heap_c.specs.declared.codes.Code.TheVariants as code;
 ghost use Rattle.sorted_boxes.specs.Sorts.{AreFit, is_fit};
 ghost use Rattle.sorted_rule.specs.Sorts.{sort_of};
@@ -52,6 +54,9 @@ pub(crate) fn end(heap: &CellHeap<Rule>, seat: &mut MutSeat<Rule>, sorts: &Sorts
 pub(crate) fn answer(heap: &CellHeap<Rule>, seat: &mut MutSeat<Rule>, sorts: &Sorts) -> Code
     requires mine { IsMine heap.now seat.old sorts.now }
     ensures mine { IsMine heap.now seat.new sorts.now }
+    ensures records { StillRecords seat.old.me.known seat.new.me.known }
+    ensures longer { length seat.old.me.known ≤ length seat.new.me.known }
+    ensures inside { seat.new.me.presence.inside ≡ seat.old.me.presence.inside }
     ensures answer { result ≡ (if seat.old.me.presence.inside then code.Ok else code.NotIn) }
     ensures answered { ReachesSafePoint (held_by heap.now seat.old sorts.now) (held_by heap.now seat.new sorts.now) result }
 {
@@ -60,6 +65,7 @@ pub(crate) fn answer(heap: &CellHeap<Rule>, seat: &mut MutSeat<Rule>, sorts: &So
         return Code::NotIn;
     }
     let _was_asked = placing::answer(heap, seat);
+    let _held = seat.held_len();
     Code::Ok
 }
 
@@ -74,6 +80,10 @@ pub(crate) fn keep(
 ) -> Code
     requires mine { IsMine heap.now seat.old sorts.old }
     ensures mine { IsMine heap.now seat.new sorts.new }
+    ensures records { KeepsRecords n seat.old.me.known seat.new.me.known }
+    ensures longer { (m : ℕ) → m ≤ n → m ≤ length seat.old.me.known
+        → m ≤ length seat.new.me.known }
+    ensures inside { seat.new.me.presence.inside ≡ seat.old.me.presence.inside }
     ensures kept { KeepsChosen (held_by heap.now seat.old sorts.old) (held_by heap.now seat.new sorts.new) n place count
         result }
 {
@@ -87,6 +97,7 @@ pub(crate) fn keep(
     }
     if count == 0 {
         placing::keep(heap, seat, sorts, n, 0, 0);
+        let _held = seat.held_len();
         return Code::Ok;
     }
     if place < FIRST || held < place || held - place < count {
@@ -97,6 +108,7 @@ pub(crate) fn keep(
         return Code::NoRoom;
     }
     placing::keep(heap, seat, sorts, n, place, count);
+    let _held = seat.held_len();
     Code::Ok
 }
 
@@ -124,6 +136,9 @@ pub(crate) fn make(
 ) -> Result<usize, Code>
     requires mine { IsMine heap.now seat.old sorts.old }
     ensures mine { IsMine heap.now seat.new sorts.new }
+    ensures records { StillRecords seat.old.me.known seat.new.me.known }
+    ensures longer { length seat.old.me.known ≤ length seat.new.me.known }
+    ensures inside { seat.new.me.presence.inside ≡ seat.old.me.presence.inside }
     ensures made { MakesCell (held_by heap.now seat.old sorts.old) (held_by heap.now seat.new sorts.new) vals.now result }
 {
     if !seat.is_in() {
@@ -142,11 +157,9 @@ pub(crate) fn make(
         return Err(Code::BadValue);
     }
     let place = claim(heap, seat, sharing, wait)?;
-    if making::make(heap, seat, sorts, place, fields) {
-        Ok(place)
-    } else {
-        Err(Code::Wait)
-    }
+    let made = making::make(heap, seat, sorts, place, fields);
+    let _held = seat.held_len();
+    if made { Ok(place) } else { Err(Code::Wait) }
 }
 
 /// Makes a box, and keeps the first places and it alone.
@@ -161,6 +174,10 @@ pub(crate) fn make_at(
 ) -> Code
     requires mine { IsMine heap.now seat.old sorts.old }
     ensures mine { IsMine heap.now seat.new sorts.new }
+    ensures records { KeepsRecords first seat.old.me.known seat.new.me.known }
+    ensures longer { (m : ℕ) → m ≤ first → m ≤ length seat.old.me.known
+        → m ≤ length seat.new.me.known }
+    ensures inside { seat.new.me.presence.inside ≡ seat.old.me.presence.inside }
     ensures made { MakesAt (held_by heap.now seat.old sorts.old) (held_by heap.now seat.new sorts.new) first vals.now
         result }
 {
@@ -174,6 +191,7 @@ pub(crate) fn make_at(
         Ok(place) => {
             let _room = seat.room();
             placing::keep(heap, seat, sorts, first, place, 1);
+            let _held = seat.held_len();
             Code::Ok
         }
         Err(code) => code,

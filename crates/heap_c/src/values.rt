@@ -1,5 +1,6 @@
 //! Values as C has them.
-ghost use Rattle.std.specs.Prelude.{◌<◌, ◌≤◌, ◌≡◌, ◌⊎◌, IfSome, IsTrue, MatchOption, ℕ};
+ghost use Rattle.std.specs.Prelude.{◌<◌, ◌≤◌, ◌≡◌, ◌⊎◌, IfSome, IsTrue, MatchOption, slice_get, ℕ};
+ghost use Rattle.cell_making.specs.Makes.{value_at};
 ghost use Rattle.std.specs.Bool.{OnFalse, OnTrue};
 ghost use Rattle.heap_c.specs.Refusing.{AreMeant, IsVal, Means, MeansAt, NoField, NoValue};
 ghost use Rattle.heap_c.specs.Refusing.{NoValueAt};
@@ -12,15 +13,21 @@ use mutator_seat::Value;
 #[repr(C)]
 #[derive(Clone, Copy)]
 pub struct HeapVal {
-    tag: u64,
-    n: u64,
+    pub(crate) tag: u64,
+    pub(crate) n: u64,
 }
 
-const NULL: u64 = 0;
+pub(crate) const NULL: u64 = 0;
 
-const NUM: u64 = 1;
+pub(crate) const NUM: u64 = 1;
 
-const REF: u64 = 2;
+pub(crate) const REF: u64 = 2;
+
+/// A private record.
+pub(crate) const REC: u64 = 3;
+
+/// No value, but a code.
+pub(crate) const NONE: u64 = 4;
 
 /// The first place after the anchor's.
 pub(crate) const FIRST: usize = 1;
@@ -29,7 +36,7 @@ pub(crate) const FIRST: usize = 1;
 pub(crate) const FIELDS: usize = 5;
 
 /// No number is so large.
-const NUMBERS_END: u64 = 1 << 62;
+pub(crate) const NUMBERS_END: u64 = 1 << 62;
 
 /// Whether there is this place, where so many are held.
 pub(crate) fn is_place(place: usize, held: usize) -> bool
@@ -121,4 +128,18 @@ pub(crate) fn val_of(value: Value) -> HeapVal
             n: place as u64,
         },
     }
+}
+
+/// Five values as C has them.
+pub(crate) fn vals_of(values: [Value; 5]) -> [HeapVal; 5]
+    ensures vals { (i : ℕ) → i < 5 → MatchOption (slice_get result i) ⊥
+        (λ val. IsVal val (value_at values i)) }
+{
+    [
+        val_of(values[0]),
+        val_of(values[1]),
+        val_of(values[2]),
+        val_of(values[3]),
+        val_of(values[4]),
+    ]
 }

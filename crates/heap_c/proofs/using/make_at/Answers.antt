@@ -2,6 +2,7 @@ use Rattle.std.proofs.Common.{◌∷◌, [], arith, inl, refl}
 use Rattle.held_places.proofs.Going.{many_held}
 use Rattle.mutator_seat.specs.Bound.{bound}
 use Rattle.heap_c.specs.Holding.{held_by}
+use Rattle.heap_c.proofs.Lengths.{narrows_longer}
 use Rattle.heap_c.proofs.using.make_at.Goals as goal
 
 pub keep-requires-clause-kept : goal.keep-requires-clause-kept
@@ -44,3 +45,18 @@ returns-in-Ok-clause-made c =
         ),
       ),
     )
+
+pub returns-in-Ok-clause-records : goal.returns-in-Ok-clause-records
+returns-in-Ok-clause-records c =
+    λ place t lt is. c.keep.ensures.records place t lt (c.in-Ok.ensures.records place t is)
+
+pub returns-in-Ok-clause-longer : goal.returns-in-Ok-clause-longer
+returns-in-Ok-clause-longer c =
+    let heap = c.args.heap.now in
+    let made = bound heap c.make.new.seat in
+    let more = c.in-Ok.ensures.made.1.1.1.0.0 in
+    let many = many_held (bound heap c.args.seat.now) made (more.0 ∷ []) more.1 in
+    let kept = narrows_longer made (bound heap c.keep.new.seat) c.args.first c.in-Ok.place 1
+    (omega (arith, many, c.held_len.ensures.len, c.if-held_len-first.false))
+    c.keep.ensures.narrows in
+    λ m le few. omega (arith, le, kept, c.held_len-held.ensures.len, c.held_len-held.ensures.known)

@@ -1,0 +1,208 @@
+-- What the calls of private records answer, code by code, and what they leave of them.
+-- Source: this project's.
+use Rattle.std.specs.Prelude.{ℕ, zero, suc, ◌≡◌, ◌<◌, ◌≤◌, ◌+◌, ◌*◌, ◌/◌, ◌%◌, ◌^◌, ◌⊎◌, ◌++◌, ◌∷◌}
+use Rattle.std.specs.Prelude.{[], true, false, Bool, List, Ok, Err, MatchOption, length, slice_get}
+use Rattle.std.specs.Prelude.{slice_index_or, slice_set, take, ◌-◌}
+use Rattle.std.specs.declared.result.Result.{Result}
+use Rattle.cell_making.specs.Makes.{value_at}
+use Rattle.local_records.specs.Local.{Local}
+use Rattle.local_references.specs.Roots.{slot_at}
+use Rattle.local_references.specs.declared.roots.Root.{Root}
+use Rattle.local_references.specs.declared.roots.Root.TheVariants as root
+use Rattle.minor_heap.specs.Nursery.{field_at}
+use Rattle.minor_heap.specs.declared.fields.MinorField.{MinorField}
+use Rattle.minor_heap.specs.declared.fields.MinorField.TheVariants as field
+use Rattle.minor_heap.specs.declared.fields.MinorRef.{MinorRef}
+use Rattle.mutator_events.specs.declared.values.Value.{Value}
+use Rattle.sorted_boxes.specs.Sorts.{SortList, holds_record}
+use Rattle.heap_c.specs.declared.codes.Code.{Code}
+use Rattle.heap_c.specs.declared.codes.Code.TheVariants as code
+use Rattle.heap_c.specs.declared.values.HeapVal.{HeapVal}
+use Rattle.heap_c.specs.Calls.{IsIn, ReadsAllFields, ReadsField}
+use Rattle.heap_c.specs.Holding.{Held, Owned}
+use Rattle.heap_c.specs.Refusing.{IsOut, IsVal, NoField, held_of}
+
+-- the number of a reference: its turn, and the number of its record
+abbrev pub ref_number : (turn number : ℕ) → ℕ
+ref_number turn number = turn * 4294967296 + number
+
+-- the bytes name this private record
+abbrev pub NamesRecord : Local → (tag n : ℕ) → MinorRef → Type 0
+NamesRecord l tag n r =
+    (tag ≡ 3) × ((n ≡ ref_number l.turn r.number) × (r.number < length l.records))
+
+-- the tag of field i of a new record, in the bytes of a word
+abbrev pub tag_at : ℕ → ℕ → ℕ
+tag_at kinds zero = kinds % 256
+tag_at kinds (suc zero) = kinds / 256 % 256
+tag_at kinds (suc (suc zero)) = kinds / 65536 % 256
+tag_at kinds (suc (suc (suc zero))) = kinds / 16777216 % 256
+tag_at kinds (suc (suc (suc (suc i)))) = kinds / 4294967296
+
+-- with so many places held, which hold this
+module _ (held : ℕ) (sorts : SortList) (l : Local) where
+  -- the bytes are this field of a new record
+  abbrev pub FieldMeans : (tag n : ℕ) → MinorField → Type 0
+  FieldMeans tag n field.Null = tag ≡ 0
+  FieldMeans tag n (field.Num number) = (tag ≡ 1) × ((n ≡ number) × (number < 2 ^ 62))
+  FieldMeans tag n (field.Minor r) = NamesRecord l tag n r
+  FieldMeans tag n (field.Shared place) = (tag ≡ 2) × ((n ≡ place)
+      × ((place < held) × (holds_record sorts place ≡ true)))
+
+  -- these are five such fields
+  abbrev pub AreFields : (kinds : ℕ) → (words : List ℕ) → List MinorField → Type 0
+  AreFields kinds words fields = (length fields ≡ 5) × ((i : ℕ) → i < 5
+      → FieldMeans (tag_at kinds i) (slice_index_or words i 0) (slice_index_or fields i field.Null))
+
+  -- the bytes are this root
+  abbrev pub RootMeans : (tag n : ℕ) → Root → Type 0
+  RootMeans tag n root.Null = tag ≡ 0
+  RootMeans tag n (root.Num number) = (tag ≡ 1) × ((n ≡ number) × (number < 2 ^ 62))
+  RootMeans tag n (root.Private r) = NamesRecord l tag n r
+  RootMeans tag n (root.Shared place) = (tag ≡ 2) × ((n ≡ place) × ((1 ≤ place) × (place < held)))
+
+-- of a mutator
+abbrev pub AreFieldsOf : Owned → (kinds : ℕ) → (words : List ℕ) → List MinorField → Type 0
+AreFieldsOf m = AreFields (held_of m.held) m.held.sorts m.local
+
+abbrev pub IsRootOf : Owned → HeapVal → Root → Type 0
+IsRootOf m val = RootMeans (held_of m.held) m.held.sorts m.local val.tag val.n
+
+-- the bytes of a private record, and of a field of one, that are handed out
+abbrev pub IsRef : Local → HeapVal → (number : ℕ) → Type 0
+IsRef l val number = (val.tag ≡ 3) × (val.n ≡ ref_number l.turn number)
+
+abbrev pub IsFieldVal : Local → HeapVal → MinorField → Type 0
+IsFieldVal l val field.Null = (val.tag ≡ 0) × (val.n ≡ 0)
+IsFieldVal l val (field.Num n) = (val.tag ≡ 1) × (val.n ≡ n)
+IsFieldVal l val (field.Minor r) = IsRef l val r.number
+IsFieldVal l val (field.Shared place) = (val.tag ≡ 2) × (val.n ≡ place)
+
+-- One more record of five fields, or why not.
+abbrev pub MakesRecord : Owned → Local → (kinds : ℕ) → (words : List ℕ) → Result HeapVal Code
+    → Type 0
+MakesRecord m later kinds words (Ok val) = IsIn m.held × ((fields : List MinorField)
+    × (AreFieldsOf m kinds words fields × ((later.records ≡ m.local.records ++ fields ∷ [])
+    × (IsRef m.local val (length m.local.records) × (later ≡ record m.local {
+      records = later.records;
+      named = later.named;
+    })))))
+MakesRecord m later kinds words (Err code.NotIn) = IsOut m.held × (later ≡ m.local)
+MakesRecord m later kinds words (Err code.BadValue) =
+    ((fields : List MinorField) → AreFieldsOf m kinds words fields → ⊥) × (later ≡ m.local)
+MakesRecord m later kinds words (Err code.NoRecords) =
+    (length m.local.records ≡ m.local.room) × (later ≡ m.local)
+MakesRecord m later kinds words (Err code.Spent) =
+    (m.local.turn ≡ 4294967295) × (later ≡ m.local)
+MakesRecord m later kinds words (Err _) = ⊥
+
+abbrev pub NoRoot : Owned → HeapVal → Type 0
+NoRoot m val = (r : Root) → IsRootOf m val r → ⊥
+
+-- a field of a private record, of who is in or out
+abbrev pub GetsPrivate : Bool → Local → HeapVal → (f : ℕ) → Result HeapVal Code → Type 0
+GetsPrivate inside l of f (Ok val) = (inside ≡ true) × ((r : MinorRef)
+    × (NamesRecord l of.tag of.n r × ((f ≤ 4) × IsFieldVal l val (field_at l.records r.number f))))
+GetsPrivate inside l of f (Err code.NotIn) = inside ≡ false
+GetsPrivate inside l of f (Err code.BadValue) =
+    (r : MinorRef) → NamesRecord l of.tag of.n r → ⊥
+GetsPrivate inside l of f (Err code.BadField) = NoField f
+GetsPrivate inside l of f (Err _) = ⊥
+
+-- all five
+abbrev pub GetsAllPrivate : Bool → Local → HeapVal → (five : ℕ) → Result (List HeapVal) Code
+    → Type 0
+GetsAllPrivate inside l of five (Ok vals) = (inside ≡ true) × ((five ≡ 5) × ((r : MinorRef)
+    × (NamesRecord l of.tag of.n r × ((i : ℕ) → i < 5 → MatchOption (slice_get vals i) ⊥
+    (λ val. IsFieldVal l val (field_at l.records r.number i))))))
+GetsAllPrivate inside l of five (Err code.NotIn) = inside ≡ false
+GetsAllPrivate inside l of five (Err code.BadValue) =
+    (r : MinorRef) → NamesRecord l of.tag of.n r → ⊥
+GetsAllPrivate inside l of five (Err code.BadSize) = ¬ (five ≡ 5)
+GetsAllPrivate inside l of five (Err _) = ⊥
+
+-- a field of a cell, or of a private record
+abbrev pub ReadsVal : Held → Held → (place f : ℕ) → Result HeapVal Code → Type 0
+ReadsVal old new place f (Ok val) =
+    (value : Value) × (IsVal val value × ReadsField old new place f (Ok value))
+ReadsVal old new place f (Err c) = ReadsField old new place f (Err c)
+
+abbrev pub GetsField : Owned → Owned → HeapVal → (f : ℕ) → Result HeapVal Code → Type 0
+GetsField old new of f r =
+    ((of.tag ≡ 2) × (ReadsVal old.held new.held of.n f r × (new.local ≡ old.local)))
+    ⊎ ((¬ (of.tag ≡ 2)) × (GetsPrivate old.held.bound.seat.me.presence.inside old.local of f r
+    × (new ≡ old)))
+
+abbrev pub ReadsAllVals : Held → Held → (place five : ℕ) → Result (List HeapVal) Code → Type 0
+ReadsAllVals old new place five (Ok vals) = (values : List Value)
+    × (((i : ℕ) → i < 5 → MatchOption (slice_get vals i) ⊥ (λ val. IsVal val (value_at values i)))
+    × ReadsAllFields old new place five (Ok values))
+ReadsAllVals old new place five (Err c) = ReadsAllFields old new place five (Err c)
+
+abbrev pub GetsAllFields : Owned → Owned → HeapVal → (five : ℕ) → Result (List HeapVal) Code
+    → Type 0
+GetsAllFields old new of five r =
+    ((of.tag ≡ 2) × (ReadsAllVals old.held new.held of.n five r × (new.local ≡ old.local)))
+    ⊎ ((¬ (of.tag ≡ 2)) × (GetsAllPrivate old.held.bound.seat.me.presence.inside old.local of five r
+    × (new ≡ old)))
+
+-- how many records and roots a mutator may get room for
+abbrev pub IsRecordSize : (records roots : ℕ) → Type 0
+IsRecordSize records roots = (1 ≤ records) × ((records ≤ 4194304) × (roots ≤ 1048576))
+
+abbrev pub GivesRoom : (records roots : ℕ) → Owned → Owned → Code → Type 0
+GivesRoom records roots old new code.Ok = IsOut old.held × ((old.local.room ≡ 0)
+    × (IsRecordSize records roots × ((new.held ≡ old.held) × ((new.local.room ≡ records)
+    × ((new.local.most ≡ roots) × ((new.local.records ≡ []) × (new.local.roots ≡ [])))))))
+GivesRoom records roots old new code.IsIn = IsIn old.held × (new ≡ old)
+GivesRoom records roots old new code.NotZero = (1 ≤ old.local.room) × (new ≡ old)
+GivesRoom records roots old new code.BadSize = (¬ IsRecordSize records roots) × (new ≡ old)
+GivesRoom records roots old new code.NoMemory = new ≡ old
+GivesRoom records roots old new _ = ⊥
+
+-- the bytes of a root that is handed out
+abbrev pub IsRootVal : Local → HeapVal → Root → Type 0
+IsRootVal l val root.Null = (val.tag ≡ 0) × (val.n ≡ 0)
+IsRootVal l val (root.Num n) = (val.tag ≡ 1) × (val.n ≡ n)
+IsRootVal l val (root.Private r) = IsRef l val r.number
+IsRootVal l val (root.Shared place) = (val.tag ≡ 2) × (val.n ≡ place)
+
+module _ (m : Owned) (later : Local) where
+  abbrev pub PushesRoot : HeapVal → Code → Type 0
+  PushesRoot val code.Ok = IsIn m.held × ((r : Root) × (IsRootOf m val r
+      × ((later.roots ≡ m.local.roots ++ r ∷ []) × (later ≡ record m.local {
+        roots = later.roots;
+        named = later.named;
+      }))))
+  PushesRoot val code.NotIn = IsOut m.held × (later ≡ m.local)
+  PushesRoot val code.BadValue = NoRoot m val × (later ≡ m.local)
+  PushesRoot val code.NoRoom = (length m.local.roots ≡ m.local.most) × (later ≡ m.local)
+  PushesRoot val _ = ⊥
+
+  -- the newest n go
+  abbrev pub PopsRoots : (n : ℕ) → Code → Type 0
+  PopsRoots n code.Ok = IsIn m.held × ((n ≤ length m.local.roots) × (later ≡ record m.local {
+    roots = take (length m.local.roots - n) m.local.roots;
+  }))
+  PopsRoots n code.NotIn = IsOut m.held × (later ≡ m.local)
+  PopsRoots n code.BadPlace = (length m.local.roots < n) × (later ≡ m.local)
+  PopsRoots n _ = ⊥
+
+  abbrev pub SetsRoot : (i : ℕ) → HeapVal → Code → Type 0
+  SetsRoot i val code.Ok = IsIn m.held × ((i < length m.local.roots) × ((r : Root)
+      × (IsRootOf m val r × ((later.roots ≡ slice_set m.local.roots i r)
+      × (later ≡ record m.local {
+        roots = later.roots;
+        named = later.named;
+      })))))
+  SetsRoot i val code.NotIn = IsOut m.held × (later ≡ m.local)
+  SetsRoot i val code.BadPlace = (length m.local.roots ≤ i) × (later ≡ m.local)
+  SetsRoot i val code.BadValue = NoRoot m val × (later ≡ m.local)
+  SetsRoot i val _ = ⊥
+
+abbrev pub TellsRoot : Owned → (i : ℕ) → Result HeapVal Code → Type 0
+TellsRoot m i (Ok val) = IsIn m.held × ((i < length m.local.roots)
+    × IsRootVal m.local val (slot_at m.local.roots i))
+TellsRoot m i (Err code.NotIn) = IsOut m.held
+TellsRoot m i (Err code.BadPlace) = length m.local.roots ≤ i
+TellsRoot m i (Err _) = ⊥
