@@ -20,9 +20,13 @@
  * share from the start; no field names it. The others begin at HEAP_FIRST. A call that hands out a
  * cell holds it at the next place. What is held, or reached from there or from the anchor, is not
  * freed.
- * Of each cell but the anchor the first fields, as many as heap_open says, name cells like it, and
- * the others records, of which there are none yet: null and numbers alone stand there. All fields
- * of the anchor name cells.
+ * There are two sorts of cells. A box is made by heap_make, and may be written; the anchor is one.
+ * A record never changes, and names records alone. Of each box the first fields, as many as
+ * heap_open says, name boxes and the others records; all fields of the anchor name boxes. So with 5
+ * there are boxes alone.
+ * Records are made in the private memory of a mutator, where making one takes no cell and no place,
+ * and those that nobody wants cost nothing. A private record gets a cell, its copy, when it is
+ * shared (heap_share) or promoted.
  * Nanoseconds below are of one thread without a collector. */
 #ifndef HEAP_H
 #define HEAP_H
@@ -41,34 +45,41 @@ typedef atomic_uint heap_word;
 
 typedef enum {
     HEAP_OK = 0,
-    HEAP_NO_MEMORY = 1,  /* malloc had none; heap_open and heap_seat alone */
-    HEAP_BAD_PLACE = 2,  /* no such place, or the anchor's where another is wanted */
+    HEAP_NO_MEMORY = 1,  /* malloc had none; heap_open, heap_seat and heap_records alone */
+    HEAP_BAD_PLACE = 2,  /* no such place or root; the anchor's where another is wanted; a record's
+                          * where a box is wanted; or a private record names places from there on */
     HEAP_BAD_FIELD = 3,  /* above 4 */
     HEAP_NO_ROOM = 4,    /* too few places are free: see heap_room */
     HEAP_WAIT = 5,       /* no cell is free now: answer, sleep, try again; or heap_make_wait */
     HEAP_MOVED = 6,      /* the field holds something else */
     HEAP_NOT_IN = 7,     /* the mutator is out */
-    HEAP_BAD_VALUE = 8,  /* tag above 2, number from 2^62 on, no place from HEAP_FIRST on, or a cell
-                          * where the field names records */
+    HEAP_BAD_VALUE = 8,  /* no such tag, a number from 2^62 on, no place from HEAP_FIRST on, a cell
+                          * of the other sort, or a private record that has moved or may not stand
+                          * there */
     HEAP_IS_IN = 9,      /* the mutator is in already, or in at its end */
     HEAP_NO_HANDLE = 10, /* a handle that is zero: never opened, or ended */
     HEAP_FULL = 11,      /* no cell is free, and two whole cycles did not help; or off duty */
     HEAP_NO_SEAT = 12,   /* all mutators were seated */
-    HEAP_SPENT = 13,     /* 4,000,000,000 cycles were made */
+    HEAP_SPENT = 13,     /* 4,000,000,000 cycles were made, or private records moved as often */
     HEAP_BAD_SIZE = 14,  /* a number of cells, mutators, places, values .. out of range */
-    HEAP_NOT_ZERO = 15   /* `out` is a handle already */
+    HEAP_NOT_ZERO = 15,  /* `out` is a handle already, or has private records already */
+    HEAP_NO_RECORDS = 16, /* no room for one more private record: heap_reserve */
+    HEAP_PART = 17       /* done in part: call it again */
 } heap_code;
 
 typedef struct { void *p; } heap_mut;         /* a mutator's handle */
 typedef struct { void *p; } heap_col;         /* the collector's */
-typedef struct { uint64_t tag, n; } heap_val; /* HEAP_NULL; HEAP_NUM n; HEAP_REF, the cell at n */
-enum { HEAP_NULL = 0, HEAP_NUM = 1, HEAP_REF = 2 };
-enum { HEAP_FIRST = 1, HEAP_FIELDS = 5, HEAP_LEAST_ROOM = 8, HEAP_PATIENCE = 8 };
+/* HEAP_NULL; HEAP_NUM n; HEAP_REF, the cell at place n; HEAP_REC, a private record; HEAP_NONE, no
+ * value: the code n says why. */
+typedef struct { uint64_t tag, n; } heap_val;
+enum { HEAP_NULL = 0, HEAP_NUM = 1, HEAP_REF = 2, HEAP_REC = 3, HEAP_NONE = 4 };
+enum { HEAP_FIRST = 1, HEAP_FIELDS = 5, HEAP_LEAST_ROOM = 8, HEAP_PATIENCE = 8, HEAP_SLICE = 1000 };
 #define HEAP_ZERO { NULL }
 
 /* Opening. cells 1 to 4194304, mutators 1 to 1048576, stack (places of the mark stack) 1 to
- * 1048576, boxes (how many fields of a cell name cells; the others will name records) 1 to 5.
- * Takes all memory: 56 bytes a cell, twice that while it works. The collector is off duty. ms */
+ * 1048576, boxes (how many fields of a box name boxes; the others name records) 1 to 5. Takes all
+ * memory but that of heap_seat and heap_records: 56 bytes a cell, twice that while it works. The
+ * collector is off duty. ms */
 heap_code heap_open(uint32_t cells, uint32_t mutators, uint32_t stack, uint32_t boxes,
                     heap_col *out);
 /* The next mutator, out; they count from 0. room: places of its list, HEAP_LEAST_ROOM or more.
@@ -103,22 +114,74 @@ size_t heap_room(heap_mut *m);      /* how many more it may hold; 0 out or witho
 /* Keeps the first n places, the anchor's at least, and then `count` from `place` on, without the
  * anchor's; `place` is not looked at if count is 0. A frame notes heap_held at its entry, and at
  * its exit keeps (base, 0, 0), or (base, p, 1) to hand on a result; (heap_held(m), p, 1) copies
- * place p to the next one. BAD_PLACE, NO_ROOM. 6 ns */
+ * place p to the next one. BAD_PLACE, also where a private record, a copy or a root of the stack
+ * names a place from n on (heap_release does not mind); NO_ROOM. 6 ns */
 heap_code heap_keep(heap_mut *m, size_t n, size_t place, size_t count);
-/* A new cell of n values, 5 at most, the other fields null. The safe point too. 1 place free, or
+/* A new box of n values, 5 at most, the other fields null. The safe point too. 1 place free, or
  * NO_ROOM; BAD_SIZE, BAD_VALUE, WAIT, FULL. 70 ns. make_at: and then heap_keep(m, keep, it, 1). */
 heap_code heap_make(heap_mut *m, const heap_val *v, size_t n, size_t *place);
 heap_code heap_make_at(heap_mut *m, size_t keep, const heap_val *v, size_t n, size_t *place);
-/* One load. 1 place free (read_all: 5), or NO_ROOM; BAD_PLACE, BAD_FIELD. 4 ns, a cell 10. All five
- * fields one after the other, not of the anchor; five is 5, or BAD_SIZE. 16 ns */
+/* One load, of a box or of a shared record. 1 place free (read_all: 5), or NO_ROOM; BAD_PLACE,
+ * BAD_FIELD. 4 ns, a cell 10. All five fields one after the other, not of the anchor; five is 5, or
+ * BAD_SIZE. 16 ns */
 heap_code heap_read(heap_mut *m, size_t place, size_t field, heap_val *out);
 heap_code heap_read_all(heap_mut *m, size_t place, heap_val *out, size_t five);
-/* A store, whatever stands there: 1 place free, or NO_ROOM; BAD_PLACE, BAD_FIELD, BAD_VALUE; MOVED
- * if others wrote the field again and again in one moment of a cycle. 18 ns. One compare and
- * exchange: MOVED if the field holds another value than `was`. 15 ns */
+/* A store into a box, whatever stands there: 1 place free, or NO_ROOM; BAD_PLACE, BAD_FIELD,
+ * BAD_VALUE; MOVED if others wrote the field again and again in one moment of a cycle. 18 ns. One
+ * compare and exchange: MOVED if the field holds another value than `was`. 15 ns */
 heap_code heap_write(heap_mut *m, size_t place, size_t field, heap_val v);
 heap_code heap_swap(heap_mut *m, size_t place, size_t field, heap_val was, heap_val now);
 heap_code heap_same(heap_mut *m, size_t one, size_t other, int *same); /* are they one cell? 5 ns */
+
+/* Private records. A mutator gets memory for `records` of them, 1 to 4194304, and for a stack of
+ * `roots`, 1048576 at most: about 115 bytes a record, 40 a root. Once, while it is out. IS_IN,
+ * NOT_ZERO, BAD_SIZE, NO_MEMORY.
+ *
+ * A reference, of tag HEAP_REC, is good until private records move, which heap_reserve, heap_share
+ * and heap_end alone do: from then on every call answers BAD_VALUE to it. What is on the stack of
+ * roots moves along. A private record, the copy of one and a root of tag HEAP_REF name places of
+ * the held list; those places stay until the records go (heap_keep, heap_release). */
+heap_code heap_records(heap_mut *m, uint32_t records, uint32_t roots);
+/* A private record of five values: null, numbers, private records, and places of shared records. A
+ * byte of `kinds` for each tag, that of the first field lowest; heap_record below takes values. It
+ * never moves a record. Or HEAP_NONE, with the code: NO_HANDLE, NOT_IN, BAD_VALUE, NO_RECORDS. */
+heap_val heap_new(heap_mut *m, uint64_t kinds, uint64_t a, uint64_t b, uint64_t c, uint64_t d,
+                  uint64_t e);
+/* A field of a private record, or of the cell at a place, which heap_read reads: a cell that it
+ * finds there is held at the next place. All five fields. BAD_VALUE; BAD_FIELD, BAD_SIZE; BAD_PLACE
+ * (the anchor's fields one by one); NO_ROOM */
+heap_code heap_get(heap_mut *m, heap_val of, size_t field, heap_val *out);
+heap_code heap_get_all(heap_mut *m, heap_val of, heap_val *out, size_t five);
+/* The stack of roots, counted from the oldest; a root is any value. heap_pop lets the newest n go.
+ * NO_ROOM where the stack is full; BAD_VALUE; BAD_PLACE where there are not so many. */
+size_t heap_roots(heap_mut *m); /* how many there are; 0 out or without a handle */
+heap_code heap_push(heap_mut *m, heap_val v);
+heap_code heap_pop(heap_mut *m, size_t n);
+heap_code heap_root(heap_mut *m, size_t i, heap_val *out);
+heap_code heap_set(heap_mut *m, size_t i, heap_val v);
+/* After OK so many heap_new move nothing and are not refused, and so many places are free. If that
+ * is so already, and as many places again are free as a share of all that may want (one for each
+ * record, there or asked for, and one for each root), it does nothing. Else a call makes one step.
+ * It lets private records go that no root leads to, if places are no concern, none may have a copy,
+ * and this is the first such step since a share; or it shares the roots as heap_share does, with at
+ * most 1000 copies, or an eighth of the records that there is room for if that is more. PART: there
+ * are more steps. WAIT, FULL, NO_ROOM, BAD_PLACE; BAD_SIZE where there is not so much room at all;
+ * SPENT. Who reserves so before all else never lacks the places for a share, if heap_seat was given
+ * base + places + the room for records + twice that for roots, or more. */
+heap_code heap_reserve(heap_mut *m, size_t base, uint32_t records, size_t places);
+/* Makes cells of the private records that the roots lead to, `most` of them at most (1 or more),
+ * and answers PART where there are more to come: nothing has moved then. OK: the held list is its
+ * first `base` places, 1 at least, and then each root that is a cell, in order; those roots are
+ * HEAP_REF now, and no private record is left. WAIT and FULL lose nothing: the copies stay.
+ * NO_ROOM: it takes a place for each copy, and one for each root at the end, besides those that are
+ * held (roots that are null or numbers count too). A safe point where it makes a cell. */
+heap_code heap_share(heap_mut *m, size_t base, size_t most);
+/* The same for one private record, which may be a root or not: nothing moves, and the place holds
+ * its copy. */
+heap_code heap_promote(heap_mut *m, heap_val rec, size_t most, size_t *place);
+/* Keeps the first n places, and those up to the last one that a private record, a copy or a root
+ * names. BAD_PLACE */
+heap_code heap_release(heap_mut *m, size_t n);
 
 #ifdef __cplusplus
 }
@@ -156,6 +219,52 @@ static inline heap_code heap_make_at_wait(heap_mut *m, size_t keep, const heap_v
     heap_code code;
     do code = heap_make_at(m, keep, v, n, place); while (heap_again(m, code, &fulls));
     return code;
+}
+
+static inline heap_val heap_record(heap_mut *m, heap_val a, heap_val b, heap_val c, heap_val d,
+                                   heap_val e) {
+    return heap_new(m, a.tag | b.tag << 8 | c.tag << 16 | d.tag << 24 | e.tag << 32, a.n, b.n, c.n,
+                    d.n, e.n);
+}
+
+static inline heap_code heap_why(heap_val v) {
+    return v.tag == HEAP_NONE ? (heap_code)v.n : HEAP_OK;
+}
+
+static inline heap_code heap_reserve_wait(heap_mut *m, size_t base, uint32_t records,
+                                          size_t places) {
+    int fulls = 0;
+    heap_code code;
+    do code = heap_reserve(m, base, records, places);
+    while (code == HEAP_PART || heap_again(m, code, &fulls));
+    return code;
+}
+
+static inline heap_code heap_share_wait(heap_mut *m, size_t base) {
+    int fulls = 0;
+    heap_code code;
+    do code = heap_share(m, base, HEAP_SLICE);
+    while (code == HEAP_PART || heap_again(m, code, &fulls));
+    return code;
+}
+
+static inline heap_code heap_promote_wait(heap_mut *m, heap_val rec, size_t *place) {
+    int fulls = 0;
+    heap_code code;
+    do code = heap_promote(m, rec, HEAP_SLICE, place);
+    while (code == HEAP_PART || heap_again(m, code, &fulls));
+    return code;
+}
+
+/* A write of any value: a private record is promoted first. Waits while no cell is free. */
+static inline heap_code heap_put(heap_mut *m, size_t place, size_t field, heap_val v) {
+    size_t at;
+    if (v.tag == HEAP_REC) {
+        heap_code code = heap_promote_wait(m, v, &at);
+        if (code != HEAP_OK) return code;
+        v = heap_ref(at);
+    }
+    return heap_write(m, place, field, v);
 }
 
 /* Blocking. A thread parks its mutator, blocks, and takes it back; it holds what it held, and who
