@@ -10,8 +10,8 @@
 //! Reading order: `rule`, `sharing`, `claiming`, `mine`, `parts`, `handle`, `works`, `collecting`,
 //! `keeper`, `codes`, `values`; `using` and `fields`, which work on a seat; `records`, `rooting`,
 //! `cells` and `moving`, on private records; `owned`, which keeps these in force; then the calls,
-//! `opening`, `coming`, `calls`, `private`, `moves`, `looking`. Of the definitions: Owning, Holding,
-//! Keeping, Refusing, Calls, Records, Moving, Keeps, Handles, Seating.
+//! `opening`, `coming`, `calls`, `private`, `moves`, `looking`. Of the definitions: Owning,
+//! Holding, Keeping, Refusing, Calls, Records, Moving, Keeps, Handles, Seating.
 #![tactic(auto)]
 
 mod calls;

@@ -381,13 +381,7 @@ impl Mine {
     pub(crate) fn release(&mut self, n: usize) -> Code
         ensures released { ReleasesPlaces self.old self.new n result }
     {
-        moving::release(
-            &self.heap,
-            &mut self.seat,
-            &mut self.sorts,
-            &self.local,
-            n,
-        )
+        moving::release(&self.heap, &mut self.seat, &mut self.sorts, &self.local, n)
     }
 
     /// The place of the copy of a private record, for which so many copies are made at most.
