@@ -39,6 +39,7 @@ module _ (heap : HeapId) (old new : SeatView Sorting) (sorts later : SortList) (
     inside = λ is. local_on l old.me.known new.me.known still longer
         (owned.inside (sym inside ∙ is));
     outside = λ is. owned.outside (sym inside ∙ is);
+    apart = owned.apart;
   }
 
   pub owned_first : (n : ℕ) → l.named ≤ n → KeepsRecords n old.me.known new.me.known
@@ -49,6 +50,7 @@ module _ (heap : HeapId) (old new : SeatView Sorting) (sorts later : SortList) (
     inside = λ is. local_first l old.me.known new.me.known n le keeps longer
         (owned.inside (sym inside ∙ is));
     outside = λ is. owned.outside (sym inside ∙ is);
+    apart = owned.apart;
   }
 
 -- coming in: whoever is out has private records that name no place
@@ -59,6 +61,7 @@ owned_begun heap old new sorts l code.Ok owned mine begun = record {
   mine = mine;
   inside = λ is. owned.outside begun.0 new.me.known;
   outside = λ is. owned.outside begun.0;
+  apart = owned.apart;
 }
 owned_begun heap old new sorts l code.IsIn owned mine begun =
     subst (λ (seat : SeatView Sorting). IsOwned heap seat sorts l)

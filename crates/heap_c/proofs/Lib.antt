@@ -1,12 +1,16 @@
+pub mod Apart
 pub mod Claims
 pub mod Crossing
 pub mod Enduring
 pub mod Lengths
 pub mod Making
+pub mod Moved
 pub mod Naming
 pub mod OfCollecting
 pub mod OfMine
 pub mod Owner
+pub mod Reserving
+pub mod RootSorts
 pub mod Staying
 pub mod Steps
 pub mod Unsplit

@@ -133,7 +133,7 @@ place_of (root.Num n) = 1
 place_of (root.Private r) = 1
 place_of (root.Shared place) = place
 
-one_apart : (x : Root) → 1 ≤ place_of x → x ≡ root.Shared 0 → ⊥
+pub one_apart : (x : Root) → 1 ≤ place_of x → x ≡ root.Shared 0 → ⊥
 one_apart x some is = let e : place_of x ≡ 0 = ap place_of is in omega (arith, e, some)
 
 shared_some : (base : ℕ) (x : Root) → 1 ≤ base → 1 ≤ place_of (shared_at base x)

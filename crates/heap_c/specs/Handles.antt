@@ -13,6 +13,7 @@ use Rattle.heap_c.specs.Holding.{Held, Owned}
 use Rattle.heap_c.specs.declared.values.HeapVal.{HeapVal}
 use Rattle.heap_c.specs.Calls.{ComparesPlaces, MakesCell, ReadsAllFields, ReadsField}
 use Rattle.heap_c.specs.Keeps.{MakesAbove}
+use Rattle.heap_c.specs.Moving.{PromotesRecord}
 use Rattle.heap_c.specs.Records.{GetsAllFields, GetsField, MakesRecord, TellsRoot}
 use Rattle.heap_c.specs.Refusing.{IsVal, held_of}
 
@@ -142,3 +143,9 @@ abbrev pub GivesRecord : (kinds : ℕ) → (words : List ℕ) → HeapVal → Op
     → Type 0
 GivesRecord kinds words given old new = (made : Result HeapVal Code) × (IsGiven made given
     × MakesOf kinds words old new made)
+
+-- the place of a copy that was handed out
+abbrev pub GivesCopy : HeapVal → (most was given : ℕ) → Owned → Owned → Code → Type 0
+GivesCopy val most was given old new c =
+    ((c ≡ code.Ok) × PromotesRecord old new val most (Ok given))
+    ⊎ ((given ≡ was) × PromotesRecord old new val most (Err c))

@@ -1,9 +1,12 @@
 -- What a mutator's handle owns between two calls.
 -- Source: this project's.
-use Rattle.std.specs.Prelude.{◌≡◌, ◌≤◌, true, false, List}
+use Rattle.std.specs.Prelude.{ℕ, ◌≡◌, ◌≤◌, true, false, List}
 use Rattle.heap_rule.specs.declared.known.Known.{Known}
 use Rattle.heap_table.specs.Seats.{HeapId, SeatView}
 use Rattle.local_records.specs.Local.{IsLocal, Local}
+use Rattle.local_references.specs.Roots.{slot_at}
+use Rattle.local_references.specs.declared.roots.Root.{Root}
+use Rattle.local_references.specs.declared.roots.Root.TheVariants as root
 use Rattle.mutator_seat.specs.Bound.{Bound, IsBound, bound}
 use Rattle.sorted_boxes.specs.Holding.{HoldsAs}
 use Rattle.sorted_boxes.specs.Sorts.{Serves, SortList}
@@ -33,6 +36,10 @@ pub record Owned : Type 0 where
 abbrev pub owned_by : HeapId → SeatView Sorting → SortList → Local → Owned
 owned_by heap seat sorts local = record { held = held_by heap seat sorts; local = local }
 
+-- no root is the anchor's place
+abbrev pub NoAnchor : List Root → Type 0
+NoAnchor roots = (k : ℕ) → slot_at roots k ≡ root.Shared 0 → ⊥
+
 -- Besides, the private records are in force by what it knows of its places; of who is out they name
 -- none.
 pub record IsOwned (heap : HeapId) (seat : SeatView Sorting) (sorts : SortList) (local : Local)
@@ -40,3 +47,4 @@ pub record IsOwned (heap : HeapId) (seat : SeatView Sorting) (sorts : SortList) 
   pub mine : IsMine heap seat sorts
   pub inside : seat.me.presence.inside ≡ true → IsLocal local seat.me.known
   pub outside : seat.me.presence.inside ≡ false → (known : List Known) → IsLocal local known
+  pub apart : NoAnchor local.roots

@@ -6,6 +6,7 @@ pub mod Holding
 pub mod Keeping
 pub mod Keeps
 pub mod Lending
+pub mod Moving
 pub mod Owning
 pub mod Records
 pub mod Refusing

@@ -175,3 +175,8 @@ module _ (copied : Bool) (m later : Owned) (base records places : ℕ) where
   ReservesRoom code.BadSize = (m.local.room < records) × (later ≡ m)
   ReservesRoom code.Spent = (m.local.turn ≡ 4294967295) × (later ≡ m)
   ReservesRoom c = SharesFor m later base places c
+
+-- whether copies were noted is known to the handle alone
+abbrev pub MakesRoom : Owned → Owned → (base records places : ℕ) → Code → Type 0
+MakesRoom m later base records places c =
+    (copied : Bool) × ReservesRoom copied m later base records places c

@@ -19,7 +19,7 @@ use mutator_seat::operations;
 const BLOCKS_TRIED: u32 = 4;
 
 /// How a mutator waits for a cell, and where it looks first.
-#[derive(Drop)]
+#[derive(Clone, Copy, Drop)]
 pub(crate) struct Waiting {
     /// the cycles that were begun at its first try in vain
     pub(crate) began: Option<u32>,

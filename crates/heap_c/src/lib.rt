@@ -8,12 +8,14 @@
 //! A handle may go to another thread, and is used by one call at a time: `Send` is proved of both.
 //!
 //! Reading order: `rule`, `sharing`, `claiming`, `mine`, `parts`, `handle`, `works`, `collecting`,
-//! `keeper`, `codes`, `values`; `using` and `fields`, which work on a seat; then the calls,
-//! `opening`, `coming`, `calls`, `looking`. Of the definitions: Owning, Holding, Keeping, Refusing,
-//! Calls, Handles, Seating.
+//! `keeper`, `codes`, `values`; `using` and `fields`, which work on a seat; `records`, `rooting`,
+//! `cells` and `moving`, on private records; `owned`, which keeps these in force; then the calls,
+//! `opening`, `coming`, `calls`, `private`, `moves`, `looking`. Of the definitions: Owning,
+//! Holding, Keeping, Refusing, Calls, Records, Moving, Keeps, Handles, Seating.
 #![tactic(auto)]
 
 mod calls;
+mod cells;
 mod claiming;
 mod codes;
 mod collecting;
@@ -23,6 +25,8 @@ mod handle;
 mod keeper;
 mod looking;
 mod mine;
+mod moves;
+mod moving;
 mod opening;
 mod owned;
 mod parts;

@@ -6,6 +6,7 @@ ghost use Rattle.heap_c.specs.Calls.{ReachesSafePoint, ReadsAllFields, ReadsFiel
 ghost use Rattle.heap_c.specs.Calls.{WritesField};
 ghost use Rattle.heap_c.specs.Holding.{owned_by};
 ghost use Rattle.heap_c.specs.Keeps.{EndsAll, KeepsAbove, MakesAbove};
+ghost use Rattle.heap_c.specs.Moving.{MakesRoom, PromotesRecord, ReleasesPlaces, SharesRoots};
 ghost use Rattle.heap_c.specs.Records.{GetsAllFields, GetsField, MakesRecord, PopsRoots, PushesRoot};
 ghost use Rattle.heap_c.specs.Records.{SetsRoot, TellsRoot};
 ghost use Rattle.heap_rule.specs.declared.known.Known.{Known};
@@ -15,12 +16,13 @@ ghost use Rattle.heap_table.specs.Seats.{IsSeatOf};
 ghost use Rattle.heap_rule.specs.Asks.{MayComeIn};
 ghost use Rattle.sorted_boxes.specs.Sorts.{Serves};
 
+use crate::cells::FreeCells;
 use crate::claiming::{Looks, Waiting};
 use crate::codes::Code;
 use crate::rule::Rule;
 use crate::sharing::Sharing;
 use crate::values::{HeapVal, REF, val_of, vals_of};
-use crate::{owned, records, rooting};
+use crate::{moving, owned, records, rooting};
 use heap_table::CellHeap;
 use local_records::{LocalRecords, NoMemory};
 use mutator_events::MutSeat;
@@ -39,6 +41,8 @@ pub struct Mine {
     sorts: Sorts,
     local: LocalRecords,
     wait: Waiting,
+    /// whether private records may have copies
+    copied: bool,
 }
 
 impl Model for Mine {
@@ -70,6 +74,7 @@ impl Mine {
         requires some { 1 ≤ sorts.boxes }
         requires serves { Serves sorts seat.me }
         requires local { (known : List Known) → IsLocal local known }
+        requires rootless { local.roots ≡ [] }
         ensures mine { result ≡ owned_by heap.value seat sorts local }
     {
         // Who is out has begun no write.
@@ -87,6 +92,7 @@ impl Mine {
                     next: 0,
                 },
             },
+            copied: false,
         }
     }
 
@@ -124,6 +130,7 @@ impl Mine {
         ensures answer { result ≡ (if self.old.held.bound.seat.me.presence.inside then code.Ok else code.NotIn) }
         ensures ended { EndsAll self.old self.new result }
     {
+        self.copied = false;
         owned::end(&self.heap, &mut self.seat, &self.sorts, &mut self.local)
     }
 
@@ -368,6 +375,73 @@ impl Mine {
         ensures held { self.new.held ≡ self.old.held }
     {
         rooting::set(&self.heap, &self.seat, &self.sorts, &mut self.local, i, val)
+    }
+
+    /// Keeps the first n places, and those that private records and roots name.
+    pub(crate) fn release(&mut self, n: usize) -> Code
+        ensures released { ReleasesPlaces self.old self.new n result }
+    {
+        moving::release(&self.heap, &mut self.seat, &mut self.sorts, &self.local, n)
+    }
+
+    /// The place of the copy of a private record, for which so many copies are made at most.
+    pub(crate) fn promote(&mut self, val: HeapVal, most: usize) -> Result<usize, Code>
+        ensures promoted { PromotesRecord self.old self.new val most result }
+    {
+        let mut cells = FreeCells::new(&self.sharing, self.wait);
+        let copy = moving::promote(
+            &self.heap,
+            &mut self.seat,
+            &mut self.sorts,
+            &mut self.local,
+            &mut cells,
+            val,
+            most,
+        );
+        self.wait = cells.wait;
+        self.copied = true;
+        copy
+    }
+
+    /// Copies private records that the roots lead to, and at most so many.
+    pub(crate) fn share(&mut self, base: usize, most: usize) -> Code
+        ensures shared { SharesRoots self.old self.new base most result }
+    {
+        let mut cells = FreeCells::new(&self.sharing, self.wait);
+        let code = moving::share(
+            &self.heap,
+            &mut self.seat,
+            &mut self.sorts,
+            &mut self.local,
+            &mut cells,
+            base,
+            most,
+        );
+        self.wait = cells.wait;
+        self.copied = code != Code::Ok;
+        code
+    }
+
+    /// Makes room for so many more private records and places, by one step.
+    pub(crate) fn reserve(&mut self, base: usize, records: u32, places: usize) -> Code
+        ensures reserved { MakesRoom self.old self.new base records places result }
+    {
+        let mut cells = FreeCells::new(&self.sharing, self.wait);
+        let mut copied = self.copied;
+        let code = moving::reserve(
+            &self.heap,
+            &mut self.seat,
+            &mut self.sorts,
+            &mut self.local,
+            &mut cells,
+            &mut copied,
+            base,
+            records,
+            places,
+        );
+        self.wait = cells.wait;
+        self.copied = copied;
+        code
     }
 
     /// Is over: the collector waits for it no more.

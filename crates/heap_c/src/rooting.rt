@@ -6,6 +6,7 @@ ghost use Rattle.heap_c.specs.Records.{TellsRoot};
 ghost use Rattle.local_records.specs.Local.{IsRootBelow};
 ghost use Rattle.local_references.specs.Roots.{RootStands};
 ghost use Rattle.local_references.specs.declared.roots.Root.{Root};
+ghost use Rattle.local_references.specs.declared.roots.Root.TheVariants as root;
 
 use crate::codes::Code;
 use crate::records::{find, val_of_record};
@@ -25,6 +26,7 @@ fn root_of(local: &LocalRecords, sorts: &Sorts, val: HeapVal, held: usize) -> Op
         (λ r. RootMeans held sorts.now local.now val.tag val.n r) }
     ensures stands { IfSome result (RootStands local.now.records) }
     ensures below { IfSome result (IsRootBelow held) }
+    ensures apart { IfSome result (λ r. r ≡ root.Shared 0 → ⊥) }
 {
     let _ = sorts;
     if val.tag == REC {

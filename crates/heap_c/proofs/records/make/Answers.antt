@@ -1,6 +1,8 @@
 use Rattle.std.proofs.Common.{ap, sym, ◌∙◌}
 use Rattle.std.specs.Prelude.{Err}
+use Rattle.local_records.specs.Local.{Local}
 use Rattle.minor_heap.specs.Record.{fields_of}
+use Rattle.heap_c.proofs.Apart.{apart_as}
 use Rattle.heap_c.proofs.Naming.{shares_all, within_all}
 use Rattle.heap_c.proofs.Staying.{not_both}
 use Rattle.heap_c.proofs.records.make.Goals as goal
@@ -16,6 +18,8 @@ returns-in-Ok-clause-owned c =
           c.held_len-held.ensures.len (c.requires.owned.mine.held is) c.args.kinds c.args.words
           fields c.in-Some.ensures.means);
       outside = λ out known. absurd (not_both _ inside out);
+      apart = apart_as _ _ (ap (λ (l : Local). l.roots) c.in-Ok.ensures.only)
+          c.requires.owned.apart;
     }
 
 pub returns-in-Err-Unfit-clause-made : goal.returns-in-Err-Unfit-clause-made
