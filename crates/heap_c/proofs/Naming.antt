@@ -1,6 +1,7 @@
 -- Which private record, field or root bytes of C are.
-use Rattle.std.proofs.Common.{◌≡◌, ◌<◌, ◌≤◌, ◌+◌, ◌*◌, ◌/◌, ◌%◌, ◌∷◌, [], ℕ, suc, true, List}
-use Rattle.std.proofs.Common.{Bool, Option, None, Some, All, length, arith, refl, subst}
+use Rattle.std.proofs.Common.{◌≡◌, ◌<◌, ◌≤◌, ◌+◌, ◌*◌, ◌/◌, ◌%◌, ◌^◌, ◌∷◌, ◌∙◌, [], ℕ, zero, suc}
+use Rattle.std.proofs.Common.{Bool, List, Option, None, Some, All, false, length, true, ap, arith}
+use Rattle.std.proofs.Common.{refl, subst, sym, true≢false}
 use Rattle.std.specs.Prelude.{IfNone, IfSome, MatchOption, slice_index_or}
 use Rattle.std.proofs.lemmas.List.Elements.{All-cons, All-nil}
 use Rattle.heap_rule.specs.Asks.{known_of}
@@ -13,17 +14,18 @@ use Rattle.local_references.specs.References.{IsCurrent}
 use Rattle.local_references.specs.declared.roots.Root.{Root}
 use Rattle.local_references.specs.declared.roots.Root.TheVariants as root
 use Rattle.minor_heap.specs.Nursery.{Stands}
-use Rattle.minor_heap.specs.Record.{IsWithin}
+use Rattle.minor_heap.specs.Record.{IsWithin, field_of}
 use Rattle.minor_heap.specs.declared.fields.MinorField.{MinorField}
 use Rattle.minor_heap.specs.declared.fields.MinorField.TheVariants as field
 use Rattle.minor_heap.specs.declared.fields.MinorRef.{MinorRef}
 use Rattle.promotion.specs.Sharing.{SharesRecord}
 use Rattle.sorted_boxes.specs.Holding.{HoldsAs, IsAs}
-use Rattle.sorted_boxes.specs.Sorts.{SortList, sort_as}
+use Rattle.sorted_boxes.specs.Sorts.{SortList, holds_record, sort_as}
 use Rattle.sorted_rule.specs.Open.{KnownOfSort}
 use Rattle.sorted_rule.specs.Sorts.{Records}
 use Rattle.sorted_rule.specs.declared.sorting.Sorting.{Sorting}
-use Rattle.heap_c.specs.Records.{AreFields, FieldMeans, NamesRecord, RootMeans}
+use Rattle.heap_c.specs.Records.{AreFields, CanBeFields, CanMean, FieldMeans, NamesRecord}
+use Rattle.heap_c.specs.Records.{RootMeans, kind_at, ref_number, starts_of, tag_at}
 
 -- what was found of a reference is what its bytes name
 pub names_found : (l : Local) (tag n : ℕ) (o : Option MinorRef) → tag ≡ 3
@@ -43,15 +45,7 @@ names_found l tag n (Some r) is few found current stands none =
 
 module _ (held : ℕ) (sorts : SortList) (l : Local) (tag n : ℕ)
     (none : (r : MinorRef) → NamesRecord l tag n r → ⊥) where
-  -- bytes that are no private record are no field where their tag is none of the others
-  pub no_field : (tag ≡ 0 → ⊥) → (tag ≡ 1 → ⊥) → (tag ≡ 2 → ⊥) → (f : MinorField)
-      → FieldMeans held sorts l tag n f → ⊥
-  no_field zeroth first second field.Null means = zeroth means
-  no_field zeroth first second (field.Num number) means = first means.0
-  no_field zeroth first second (field.Minor r) means = none r means
-  no_field zeroth first second (field.Shared place) means = second means.0
-
-  -- nor a root where it is that of one
+  -- bytes that are no private record are no root where their tag is that of one
   pub no_root : tag ≡ 3 → (r : Root) → RootMeans held sorts l tag n r → ⊥
   no_root is root.Null means = omega (arith, is, means)
   no_root is (root.Num number) means = let at = means.0 in omega (arith, is, at)
@@ -94,20 +88,134 @@ module _ (held : ℕ) (sorts : SortList) (l : Local) (v : View Sorting)
       (λ i lt. shares_field _ _ (slice_index_or fields i field.Null)
       (are.1 i (omega (arith, lt, five))))
 
-module _ (held : ℕ) (sorts : SortList) (l : Local) where
-  within_field : (tag n : ℕ) (f : MinorField) → FieldMeans held sorts l tag n f
-      → IsWithin (length l.records) held f
-  within_field tag n field.Null means = tt
-  within_field tag n (field.Num number) means = means.1.1
-  within_field tag n (field.Minor r) means = means.1.1
-  within_field tag n (field.Shared place) means = means.1.1.0
+-- of each of five numbers
+at_five : (Q : ℕ → Type 0) → Q 0 → Q 1 → Q 2 → Q 3 → Q 4 → (i : ℕ) → i < 5 → Q i
+at_five Q q0 q1 q2 q3 q4 zero lt = q0
+at_five Q q0 q1 q2 q3 q4 (suc zero) lt = q1
+at_five Q q0 q1 q2 q3 q4 (suc (suc zero)) lt = q2
+at_five Q q0 q1 q2 q3 q4 (suc (suc (suc zero))) lt = q3
+at_five Q q0 q1 q2 q3 q4 (suc (suc (suc (suc zero)))) lt = q4
+at_five Q q0 q1 q2 q3 q4 (suc (suc (suc (suc (suc i))))) lt = absurd (omega (arith, lt))
 
-  -- what new fields name is there
-  pub within_all : (kinds : ℕ) (words : List ℕ) (fields : List MinorField)
-      → AreFields held sorts l kinds words fields
-      → All (IsWithin (length l.records) held) fields
-  within_all kinds words fields are =
-      let five = are.0 in
-      all_five (IsWithin (length l.records) held) fields
-      (λ i lt. within_field _ _ (slice_index_or fields i field.Null)
-      (are.1 i (omega (arith, lt, five))))
+module _ (sorts : SortList) (l : Local) where
+  -- bytes with a tag that is none, or with a number below that from which it counts, or that name a
+  -- box, are no field
+  pub no_such_tag : (held tag n : ℕ) (f : MinorField) → 3 < tag → FieldMeans held sorts l tag n f
+      → ⊥
+  no_such_tag held tag n field.Null more means = omega (arith, more, means)
+  no_such_tag held tag n (field.Num number) more means =
+      let at = means.0 in omega (arith, more, at)
+  no_such_tag held tag n (field.Minor r) more means = let at = means.0 in omega (arith, more, at)
+  no_such_tag held tag n (field.Shared place) more means =
+      let at = means.0 in omega (arith, more, at)
+
+  pub of_other_turn : (held tag n : ℕ) (f : MinorField) → tag ≤ 3
+      → n < slice_index_or (starts_of l.turn) tag 0 → FieldMeans held sorts l tag n f → ⊥
+  of_other_turn held zero n f le less means = omega (arith, less)
+  of_other_turn held (suc zero) n f le less means = omega (arith, less)
+  of_other_turn held (suc (suc zero)) n f le less means = omega (arith, less)
+  of_other_turn held (suc (suc (suc zero))) n field.Null le less means = omega (arith, means)
+  of_other_turn held (suc (suc (suc zero))) n (field.Num number) le less means =
+      let at = means.0 in omega (arith, at)
+  of_other_turn held (suc (suc (suc zero))) n (field.Minor r) le less means =
+      let at = means.1.0 in omega (arith, less, at)
+  of_other_turn held (suc (suc (suc zero))) n (field.Shared place) le less means =
+      let at = means.0 in omega (arith, at)
+  of_other_turn held (suc (suc (suc (suc tag)))) n f le less means = omega (arith, le)
+
+  pub of_box : (held tag n : ℕ) (f : MinorField) → tag ≡ 2 → holds_record sorts n ≡ false
+      → FieldMeans held sorts l tag n f → ⊥
+  of_box held tag n field.Null is box means = omega (arith, is, means)
+  of_box held tag n (field.Num number) is box means = let at = means.0 in omega (arith, is, at)
+  of_box held tag n (field.Minor r) is box means = let at = means.0 in omega (arith, is, at)
+  of_box held tag n (field.Shared place) is box means =
+      true≢false (sym means.1.1.1 ∙ ap (holds_record sorts) (sym means.1.0) ∙ box)
+
+  within_num : (n word : ℕ) → n ≡ word → (held : ℕ) (other : MinorField)
+      → FieldMeans held sorts l 1 n other → word < 2 ^ 62
+  within_num n word is held field.Null means = absurd (omega (arith, means))
+  within_num n word is held (field.Num number) means =
+      let at = means.1.0 in let lt = means.1.1 in omega (arith, is, at, lt)
+  within_num n word is held (field.Minor r) means = let at = means.0 in absurd (omega (arith, at))
+  within_num n word is held (field.Shared place) means =
+      let at = means.0 in absurd (omega (arith, at))
+
+  within_shared : (n word : ℕ) → n ≡ word → (held : ℕ) (other : MinorField)
+      → FieldMeans held sorts l 2 n other → word < held
+  within_shared n word is held field.Null means = absurd (omega (arith, means))
+  within_shared n word is held (field.Num number) means =
+      let at = means.0 in absurd (omega (arith, at))
+  within_shared n word is held (field.Minor r) means = let at = means.0 in absurd (omega (arith, at))
+  within_shared n word is held (field.Shared place) means =
+      let at = means.1.0 in let lt = means.1.1.0 in omega (arith, is, at, lt)
+
+  within_minor : (n word : ℕ) → n ≡ ref_number l.turn 0 + word → (held : ℕ) (other : MinorField)
+      → FieldMeans held sorts l 3 n other → word < length l.records
+  within_minor n word is held field.Null means = absurd (omega (arith, means))
+  within_minor n word is held (field.Num number) means =
+      let at = means.0 in absurd (omega (arith, at))
+  within_minor n word is held (field.Minor r) means =
+      let at = means.1.0 in let lt = means.1.1 in omega (arith, is, at, lt)
+  within_minor n word is held (field.Shared place) means =
+      let at = means.0 in absurd (omega (arith, at))
+
+  -- all others are the field of their tag, if they are any
+  pub can_mean : (tag n word : ℕ) → tag ≤ 3 → n ≡ slice_index_or (starts_of l.turn) tag 0 + word
+      → (tag ≡ 2 → holds_record sorts n ≡ true) → CanMean sorts l tag n (field_of (kind_at tag) word)
+  can_mean zero n word le is record_is = record {
+    within = λ held other means. tt;
+    means = λ held within. refl;
+  }
+  can_mean (suc zero) n word le is record_is =
+      let same : n ≡ word = omega (arith, is) in
+      record {
+        within = within_num n word same;
+        means = λ held within. (refl, (same, within));
+      }
+  can_mean (suc (suc zero)) n word le is record_is =
+      let same : n ≡ word = omega (arith, is) in
+      record {
+        within = within_shared n word same;
+        means = λ held within. (
+          refl,
+          (
+            same,
+            (within, ap (holds_record sorts) (sym same) ∙ record_is refl),
+          ),
+        );
+      }
+  can_mean (suc (suc (suc zero))) n word le is record_is = record {
+    within = within_minor n word is;
+    means = λ held within. (refl, (omega (arith, is), within));
+  }
+  can_mean (suc (suc (suc (suc tag)))) n word le is record_is = absurd (omega (arith, le))
+
+  -- five that can be meant
+  pub can_be : (kinds : ℕ) (words : List ℕ) (f0 f1 f2 f3 f4 : MinorField)
+      → CanMean sorts l (tag_at kinds 0) (slice_index_or words 0 0) f0
+      → CanMean sorts l (tag_at kinds 1) (slice_index_or words 1 0) f1
+      → CanMean sorts l (tag_at kinds 2) (slice_index_or words 2 0) f2
+      → CanMean sorts l (tag_at kinds 3) (slice_index_or words 3 0) f3
+      → CanMean sorts l (tag_at kinds 4) (slice_index_or words 4 0) f4
+      → CanBeFields sorts l kinds words (f0 ∷ f1 ∷ f2 ∷ f3 ∷ f4 ∷ [])
+  can_be kinds words f0 f1 f2 f3 f4 m0 m1 m2 m3 m4 =
+      let fields = f0 ∷ f1 ∷ f2 ∷ f3 ∷ f4 ∷ [] in
+      record {
+        within = λ held others are.
+            all_five (IsWithin (length l.records) held) fields
+            (at_five (λ (i : ℕ). IsWithin (length l.records) held
+            (slice_index_or fields i field.Null))
+            (m0.within held (slice_index_or others 0 field.Null) (are.1 0 (omega arith)))
+            (m1.within held (slice_index_or others 1 field.Null) (are.1 1 (omega arith)))
+            (m2.within held (slice_index_or others 2 field.Null) (are.1 2 (omega arith)))
+            (m3.within held (slice_index_or others 3 field.Null) (are.1 3 (omega arith)))
+            (m4.within held (slice_index_or others 4 field.Null) (are.1 4 (omega arith))));
+        means = λ held all. (
+          refl,
+          at_five (λ (i : ℕ). FieldMeans held sorts l (tag_at kinds i) (slice_index_or words i 0)
+              (slice_index_or fields i field.Null))
+              (m0.means held (all 0 f0 (omega arith))) (m1.means held (all 1 f1 (omega arith)))
+              (m2.means held (all 2 f2 (omega arith))) (m3.means held (all 3 f3 (omega arith)))
+              (m4.means held (all 4 f4 (omega arith))),
+        );
+      }

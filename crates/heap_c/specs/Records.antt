@@ -1,7 +1,8 @@
 -- What the calls of private records answer, code by code, and what they leave of them.
 -- Source: this project's.
 use Rattle.std.specs.Prelude.{ℕ, zero, suc, ◌≡◌, ◌<◌, ◌≤◌, ◌+◌, ◌*◌, ◌/◌, ◌%◌, ◌^◌, ◌⊎◌, ◌++◌, ◌∷◌}
-use Rattle.std.specs.Prelude.{[], true, false, Bool, List, Ok, Err, MatchOption, length, slice_get}
+use Rattle.std.specs.Prelude.{[], true, false, All, Bool, List, Ok, Err, MatchOption, length}
+use Rattle.std.specs.Prelude.{slice_get}
 use Rattle.std.specs.Prelude.{slice_index_or, slice_set, take, ◌-◌}
 use Rattle.std.specs.declared.result.Result.{Result}
 use Rattle.cell_making.specs.Makes.{value_at}
@@ -10,9 +11,12 @@ use Rattle.local_references.specs.Roots.{slot_at}
 use Rattle.local_references.specs.declared.roots.Root.{Root}
 use Rattle.local_references.specs.declared.roots.Root.TheVariants as root
 use Rattle.minor_heap.specs.Nursery.{field_at}
+use Rattle.minor_heap.specs.Record.{IsWithin}
 use Rattle.minor_heap.specs.declared.fields.MinorField.{MinorField}
 use Rattle.minor_heap.specs.declared.fields.MinorField.TheVariants as field
 use Rattle.minor_heap.specs.declared.fields.MinorRef.{MinorRef}
+use Rattle.minor_heap.specs.declared.record.FieldKind.{FieldKind}
+use Rattle.minor_heap.specs.declared.record.FieldKind.TheVariants as kind
 use Rattle.mutator_events.specs.declared.values.Value.{Value}
 use Rattle.sorted_boxes.specs.Sorts.{SortList, holds_record}
 use Rattle.heap_c.specs.declared.codes.Code.{Code}
@@ -60,6 +64,32 @@ module _ (held : ℕ) (sorts : SortList) (l : Local) where
   RootMeans tag n (root.Num number) = (tag ≡ 1) × ((n ≡ number) × (number < 2 ^ 62))
   RootMeans tag n (root.Private r) = NamesRecord l tag n r
   RootMeans tag n (root.Shared place) = (tag ≡ 2) × ((n ≡ place) × ((1 ≤ place) × (place < held)))
+
+-- the kind of a new record's field, by its tag
+abbrev pub kind_at : ℕ → FieldKind
+kind_at zero = kind.Null
+kind_at (suc zero) = kind.Num
+kind_at (suc (suc zero)) = kind.Shared
+kind_at (suc (suc (suc tag))) = kind.Minor
+
+-- by tag, what the number of a field's bytes counts from
+abbrev pub starts_of : (turn : ℕ) → List ℕ
+starts_of turn = 0 ∷ 0 ∷ 0 ∷ ref_number turn 0 ∷ []
+
+module _ (sorts : SortList) (l : Local) where
+  -- The bytes can be no other field than this one, and are this one if what it names is there.
+  pub record CanMean (tag n : ℕ) (f : MinorField) : Type 0 where
+    pub within : (held : ℕ) (other : MinorField) → FieldMeans held sorts l tag n other
+        → IsWithin (length l.records) held f
+    pub means : (held : ℕ) → IsWithin (length l.records) held f
+        → FieldMeans held sorts l tag n f
+
+  -- the same of five
+  pub record CanBeFields (kinds : ℕ) (words : List ℕ) (fields : List MinorField) : Type 0 where
+    pub within : (held : ℕ) (others : List MinorField) → AreFields held sorts l kinds words others
+        → All (IsWithin (length l.records) held) fields
+    pub means : (held : ℕ) → All (IsWithin (length l.records) held) fields
+        → AreFields held sorts l kinds words fields
 
 -- of a mutator
 abbrev pub AreFieldsOf : Owned → (kinds : ℕ) → (words : List ℕ) → List MinorField → Type 0

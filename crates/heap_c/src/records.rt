@@ -1,8 +1,11 @@
 //! Private records as C names them: making one, and reading one.
-ghost use Rattle.std.specs.Prelude.{◌≡◌, ◌<◌, ◌≤◌, ◌^◌, ◌+◌, ◌*◌, IfSome, List, MatchOption, true};
+ghost use Rattle.std.specs.Prelude.{◌≡◌, ◌<◌, ◌≤◌, ◌+◌, ◌*◌, IfSome, List, MatchOption, false, true};
+ghost use Rattle.std.specs.Prelude.{ℕ};
+ghost use Rattle.std.specs.Bool.{OnFalse, OnTrue};
 ghost use Rattle.heap_c.specs.Holding.{IsOwned, owned_by};
-ghost use Rattle.heap_c.specs.Records.{AreFields, FieldMeans, GetsAllPrivate, GetsPrivate};
-ghost use Rattle.heap_c.specs.Records.{IsFieldVal, IsRef, MakesRecord, NamesRecord};
+ghost use Rattle.heap_c.specs.Records.{AreFields, CanBeFields, CanMean, FieldMeans};
+ghost use Rattle.heap_c.specs.Records.{GetsAllPrivate, GetsPrivate, IsFieldVal, IsRef};
+ghost use Rattle.heap_c.specs.Records.{MakesRecord, NamesRecord, kind_at, starts_of};
 ghost use Rattle.minor_heap.specs.Nursery.{Stands};
 ghost use Rattle.minor_heap.specs.Record.{field_of, fields_of};
 ghost use Rattle.minor_heap.specs.declared.fields.MinorField.{MinorField};
@@ -66,62 +69,56 @@ struct OneField {
     word: u64,
 }
 
-/// What these bytes are as a field of a new record, if they are any, where so many places are held.
-fn given(local: &LocalRecords, sorts: &Sorts, held: usize, tag: u64, n: u64) -> Option<OneField>
+/// The kind of a field with this tag.
+fn kind_of(tag: u64) -> FieldKind
+    requires tag { tag ≤ 3 }
+    ensures kind { result ≡ kind_at tag }
+{
+    match tag {
+        NULL => FieldKind::Null,
+        NUM => FieldKind::Num,
+        REF => FieldKind::Shared,
+        _ => FieldKind::Minor,
+    }
+}
+
+/// Whether no box stands at the place that this names, if it is one.
+fn names_no_box(sorts: &Sorts, tag: u64, n: u64) -> bool
+    ensures none { OnTrue result (tag ≡ 2 → holds_record sorts.now n ≡ true) }
+    ensures one { OnFalse result ((tag ≡ 2) × (holds_record sorts.now n ≡ false)) }
+{
+    tag != REF || sorts.is_record(n as usize)
+}
+
+/// What these bytes are as a field of a new record, if what they name is there. By tag their number
+/// counts from one of these.
+fn given(
+    local: &LocalRecords,
+    sorts: &Sorts,
+    starts: &[u64; 4],
+    tag: u64,
+    n: u64,
+) -> Option<OneField>
+    requires starts { starts.now ≡ starts_of local.now.turn }
     ensures means { MatchOption result
-        ((f : MinorField) → FieldMeans held sorts.now local.now tag n f → ⊥)
-        (λ g. FieldMeans held sorts.now local.now tag n (field_of g.kind g.word)) }
+        ((held : ℕ) (f : MinorField) → FieldMeans held sorts.now local.now tag n f → ⊥)
+        (λ g. CanMean sorts.now local.now tag n (field_of g.kind g.word)) }
 {
-    if tag == NULL {
-        Some(OneField {
-            kind: FieldKind::Null,
-            word: 0,
-        })
-    } else if tag == NUM {
-        number(n)
-    } else if tag == REF {
-        shared(sorts, held, n)
-    } else {
-        match find(local, tag, n) {
-            Some(r) => Some(OneField {
-                kind: FieldKind::Minor,
-                word: u64::from(r.number),
-            }),
-            None => None,
-        }
+    let _ = local;
+    if REC < tag {
+        return None;
     }
-}
-
-/// The field that is a number.
-fn number(n: u64) -> Option<OneField>
-    ensures number { MatchOption result (2 ^ 62 ≤ n)
-        (λ g. (n < 2 ^ 62) × ((g.kind ≡ kind.Num) × (g.word ≡ n))) }
-{
-    if n < NUMBERS_END {
-        Some(OneField {
-            kind: FieldKind::Num,
-            word: n,
-        })
-    } else {
-        None
+    let start = starts[tag as usize];
+    if n < start {
+        return None;
     }
-}
-
-/// The field that is the record at a place.
-fn shared(sorts: &Sorts, held: usize, n: u64) -> Option<OneField>
-    ensures shared { MatchOption result
-        ((n < held) × (holds_record sorts.now n ≡ true) → ⊥)
-        (λ g. ((n < held) × (holds_record sorts.now n ≡ true))
-        × ((g.kind ≡ kind.Shared) × (g.word ≡ n))) }
-{
-    if (n as usize) < held && sorts.is_record(n as usize) {
-        Some(OneField {
-            kind: FieldKind::Shared,
-            word: n,
-        })
-    } else {
-        None
+    if !names_no_box(sorts, tag, n) {
+        return None;
     }
+    Some(OneField {
+        kind: kind_of(tag),
+        word: n - start,
+    })
 }
 
 /// Five fields of a new record, as they are to lie.
@@ -131,23 +128,21 @@ struct FiveFields {
     words: [u64; 5],
 }
 
-/// What the bytes of five fields are, whose tags stand in those of a word.
-fn laid(
-    local: &LocalRecords,
-    sorts: &Sorts,
-    held: usize,
-    kinds: u64,
-    words: [u64; 5],
-) -> Option<FiveFields>
+/// What the bytes of five fields are, whose tags stand in those of a word, if what they name is
+/// there.
+fn laid(local: &LocalRecords, sorts: &Sorts, kinds: u64, words: [u64; 5]) -> Option<FiveFields>
     ensures means { MatchOption result
-        ((fields : List MinorField) → AreFields held sorts.now local.now kinds words fields → ⊥)
-        (λ g. AreFields held sorts.now local.now kinds words (fields_of g.kinds g.words)) }
+        ((held : ℕ) (fields : List MinorField)
+        → AreFields held sorts.now local.now kinds words fields → ⊥)
+        (λ g. CanBeFields sorts.now local.now kinds words (fields_of g.kinds g.words)) }
 {
-    let first = given(local, sorts, held, kinds % 256, words[0])?;
-    let second = given(local, sorts, held, kinds / 256 % 256, words[1])?;
-    let third = given(local, sorts, held, kinds / 65536 % 256, words[2])?;
-    let fourth = given(local, sorts, held, kinds / 16777216 % 256, words[3])?;
-    let fifth = given(local, sorts, held, kinds / 4294967296, words[4])?;
+    let oldest = val_of_record(local, MinorRef { number: 0 });
+    let starts = [0, 0, 0, oldest.n];
+    let first = given(local, sorts, &starts, kinds % 256, words[0])?;
+    let second = given(local, sorts, &starts, kinds / 256 % 256, words[1])?;
+    let third = given(local, sorts, &starts, kinds / 65536 % 256, words[2])?;
+    let fourth = given(local, sorts, &starts, kinds / 16777216 % 256, words[3])?;
+    let fifth = given(local, sorts, &starts, kinds / 4294967296, words[4])?;
     Some(FiveFields {
         kinds: [first.kind, second.kind, third.kind, fourth.kind, fifth.kind],
         words: [first.word, second.word, third.word, fourth.word, fifth.word],
@@ -173,7 +168,7 @@ pub(crate) fn make(
         return Err(Code::NotIn);
     }
     let held = seat.held_len();
-    let Some(laid) = laid(local, sorts, held, kinds, words) else {
+    let Some(laid) = laid(local, sorts, kinds, words) else {
         return Err(Code::BadValue);
     };
     match local.make(laid.kinds, laid.words, held) {

@@ -26,31 +26,28 @@ pub enum NotMade {
     Spent,
 }
 
-/// The number after the last place of these fields, if that is more.
-fn named_with(kinds: &[FieldKind; 5], words: &[u64; 5], named: usize) -> usize
+/// Raises a number to the one after the last place of these fields.
+fn name_places(kinds: &[FieldKind; 5], words: &[u64; 5], named: &mut usize)
     requires below { All (IsFieldBelow 18446744073709551615) (fields_of kinds.now words.now) }
-    ensures more { named ≤ result }
-    ensures below { All (IsFieldBelow result) (fields_of kinds.now words.now) }
-    ensures least { (n : ℕ) → named ≤ n → All (IsFieldBelow n) (fields_of kinds.now words.now)
-        → result ≤ n }
+    ensures more { named.old ≤ named.new }
+    ensures below { All (IsFieldBelow named.new) (fields_of kinds.now words.now) }
+    ensures least { (n : ℕ) → named.old ≤ n → All (IsFieldBelow n) (fields_of kinds.now words.now)
+        → named.new ≤ n }
 {
-    let mut last = named;
     for i in 0..5 {
-        last = named_by(kinds[i], words[i], last);
+        name_place(kinds[i], words[i], named);
     }
-    last
 }
 
-/// The number after the place of this field, if that is more.
-fn named_by(kind: FieldKind, word: u64, named: usize) -> usize
+/// Raises a number to the one after the place of this field.
+fn name_place(kind: FieldKind, word: u64, named: &mut usize)
     requires below { IsFieldBelow 18446744073709551615 (field_of kind word) }
-    ensures more { named ≤ result }
-    ensures below { IsFieldBelow result (field_of kind word) }
-    ensures least { (n : ℕ) → named ≤ n → IsFieldBelow n (field_of kind word) → result ≤ n }
+    ensures more { named.old ≤ named.new }
+    ensures below { IsFieldBelow named.new (field_of kind word) }
+    ensures least { (n : ℕ) → named.old ≤ n → IsFieldBelow n (field_of kind word) → named.new ≤ n }
 {
-    match kind {
-        FieldKind::Shared => named.max(word as usize + 1),
-        FieldKind::Null | FieldKind::Num | FieldKind::Minor => named,
+    if kind == FieldKind::Shared && *named <= word as usize {
+        *named = word as usize + 1;
     }
 }
 
@@ -91,10 +88,9 @@ impl LocalRecords {
         if !self.nursery.heap().may_make(&kinds, &words, held) {
             return Err(NotMade::Unfit);
         }
-        let named = named_with(&kinds, &words, self.named);
         match self.nursery.heap_mut().make_of_words(kinds, words) {
             Ok(made) => {
-                self.named = named;
+                name_places(&kinds, &words, &mut self.named);
                 Ok(self.turns.give(made))
             }
             Err(_) => Err(NotMade::Full),

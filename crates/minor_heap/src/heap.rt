@@ -117,9 +117,9 @@ impl MinorHeap {
         ensures fits { result ≡ true
             → All (FitsRecord (length self.now.records)) (fields_of kinds.now words.now) }
     {
-        let records = self.len();
+        let ends = [0, 1 << 62, places as u64, self.len() as u64];
         for i in 0..5 {
-            if !is_within(kinds[i], words[i], records, places) {
+            if !is_within(kinds[i], words[i], &ends) {
                 return false;
             }
         }

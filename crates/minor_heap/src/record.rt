@@ -2,7 +2,7 @@
 //!
 //! The kinds and the words of the five fields stand apart, so that a record takes 48 bytes. Five
 //! fields as they are would take 80.
-ghost use Rattle.std.specs.Prelude.{◌≡◌, ◌<◌, ◌↔◌, length, slice_index_or, true};
+ghost use Rattle.std.specs.Prelude.{◌≡◌, ◌<◌, ◌↔◌, ◌^◌, length, slice_index_or, true};
 ghost use Rattle.minor_heap.specs.declared.fields.MinorField.TheVariants as field;
 ghost use Rattle.minor_heap.specs.Record.{AreNumbered, IsNumbered, IsWithin, field_of};
 ghost use Rattle.minor_heap.specs.Record.{fields_of, kind_of, word_of};
@@ -15,8 +15,8 @@ use std::marker::Model;
 pub enum FieldKind {
     Null,
     Num,
-    Minor,
     Shared,
+    Minor,
 }
 
 const _: () = prove!(size_of::<Record>() <= 48);
@@ -102,16 +102,14 @@ fn word(field: MinorField) -> u64
     }
 }
 
-/// Whether a field may be a record's where so many records stand and so many places are held.
-pub fn is_within(kind: FieldKind, word: u64, records: u32, places: usize) -> bool
-    ensures within { (result ≡ true) ↔ IsWithin records places (field_of kind word) }
+/// Whether a field may be a record's. A word, but that of a null, has to be below the number that
+/// stands for its kind. It takes no branch by kind, since a program makes many records.
+pub fn is_within(kind: FieldKind, word: u64, ends: &[u64; 4]) -> bool
+    requires numbers { slice_index_or ends.now 1 0 ≡ 2 ^ 62 }
+    ensures within { (result ≡ true) ↔ IsWithin (slice_index_or ends.now 3 0)
+        (slice_index_or ends.now 2 0) (field_of kind word) }
 {
-    match kind {
-        FieldKind::Null => true,
-        FieldKind::Num => word < 1 << 62,
-        FieldKind::Minor => word < u64::from(records),
-        FieldKind::Shared => word < places as u64,
-    }
+    kind == FieldKind::Null || word < ends[kind as usize]
 }
 
 fn unpacked(kind: FieldKind, word: u64) -> MinorField

@@ -152,6 +152,19 @@ pub(crate) fn copy_marked<P: Keeping, C: RawCells<P>>(
     Progress::Done
 }
 
+/// Whether each of these has its copy.
+fn are_copied(roots: &[MinorRef], copied: &[bool]) -> bool
+    requires stand { All (λ r. r.number < length copied.now) roots.now }
+    ensures done { result ≡ true → All (IsCopied copied.now) roots.now }
+{
+    for r in roots {
+        if !copied[r.number as usize] {
+            return false;
+        }
+    }
+    true
+}
+
 /// Copies records that these reach and that have no copy, the oldest first, and at most so many.
 /// Nothing is marked before and after.
 pub(crate) fn copy_reached<P: Keeping, C: RawCells<P>>(
@@ -191,6 +204,10 @@ pub(crate) fn copy_reached<P: Keeping, C: RawCells<P>>(
     ensures copied { length copied.new ≡ length copied.old }
     ensures places { length places.new ≡ length places.old }
 {
+    // A record that has its copy is asked for again and again by whoever stores it in many boxes.
+    if are_copied(roots, copied) {
+        return Progress::Done;
+    }
     let span = minor.mark_span(roots, marks);
     let progress = copy_marked(heap, seat, cells, minor, marks, span, copied, places, most);
     span.unmark(marks);

@@ -1,10 +1,21 @@
+use Rattle.std.proofs.Common.{arith}
 use Rattle.mutator_seat.specs.Bound.{bound}
 use Rattle.mutator_seat.specs.Claims.{anything}
-use Rattle.promotion.proofs.Growing.{still_records}
+use Rattle.promotion.proofs.Growing.{grown_none, still_records}
 use Rattle.promotion.proofs.Reaching.{marks_closed}
 use Rattle.record_copying.proofs.Slicing.{roots_done}
-use Rattle.record_copying.proofs.Standing.{all_share_still, terms_stay}
+use Rattle.record_copying.proofs.Standing.{all_share_still, keep_none, terms_stay}
 use Rattle.record_copying.proofs.slices.copy_reached.Goals as goal
+
+pub returns-then-are_copied-clause-grown : goal.returns-then-are_copied-clause-grown
+returns-then-are_copied-clause-grown g c = record {
+  count = 0;
+  few = omega arith;
+  grown = grown_none (bound c.args.heap.now c.args.seat.now);
+}
+
+pub returns-then-are_copied-clause-keeps : goal.returns-then-are_copied-clause-keeps
+returns-then-are_copied-clause-keeps g c = keep_none c.args.copied.now c.args.places.now
 
 pub copy_marked-progress-requires-clause-closed : goal.copy_marked-progress-requires-clause-closed
 copy_marked-progress-requires-clause-closed g c =

@@ -12,8 +12,8 @@ returns-in-Ok-clause-local c known so shares =
     let me = c.self.inside in
     let was = subst (λ (l : Local). IsLocal l known) (sym c.self.view_is) so in
     let fields = fields_of c.args.kinds c.args.words in
-    let step = c.named_with-named.ensures in
-    let next = c.named_with-named.result in
+    let step = c.name_places.ensures in
+    let next = c.name_places.new.named in
     let within = step.least (length known) was.within
     (fields_known known fields shares) in
     subst

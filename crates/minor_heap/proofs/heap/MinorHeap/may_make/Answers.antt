@@ -11,7 +11,7 @@ loop-i-preserved c =
     c.loop-i.i
     (subst (λ (n : ℕ). IsWithin n c.args.places (field_of
     (slice_index_or c.args.kinds.now c.loop-i.i kind.Null)
-    (slice_index_or c.args.words.now c.loop-i.i 0))) c.len-records.ensures.count
+    (slice_index_or c.args.words.now c.loop-i.i 0))) c.len.ensures.count
     (c.is_within.ensures.within.0 c.if-not-is_within.false))
     c.loop-i.invariant
 
@@ -22,7 +22,7 @@ returns-then-not-is_within-clause-may c = (
       sym c.if-not-is_within.true ∙ c.is_within.ensures.within.1
       (subst (λ (n : ℕ). IsWithin n c.args.places (field_of
       (slice_index_or c.args.kinds.now c.loop-i.i kind.Null)
-      (slice_index_or c.args.words.now c.loop-i.i 0))) (sym c.len-records.ensures.count)
+      (slice_index_or c.args.words.now c.loop-i.i 0))) (sym c.len.ensures.count)
       (within_at (length c.args.self.now.records) c.args.places c.args.kinds.now c.args.words.now
       c.loop-i.i (omega (arith, c.loop-i-test.true, c.told-kinds))
       (c.told-kinds ∙ sym c.told-words) all))),

@@ -1,10 +1,10 @@
 use Rattle.std.proofs.Common.{◌∙◌, arith, sym}
 use Rattle.local_records.specs.Local.{IsFieldBelow}
 use Rattle.local_records.proofs.Fields.{all_of, below_next, each_of}
-use Rattle.local_records.proofs.making.named_with.Goals as goal
+use Rattle.local_records.proofs.making.name_places.Goals as goal
 
-pub named_by-last-requires : goal.named_by-last-requires
-named_by-last-requires c = record {
+pub name_place-requires : goal.name_place-requires
+name_place-requires c = record {
   below = each_of (IsFieldBelow 18446744073709551615) c.args.kinds.now c.args.words.now
       (c.told-kinds ∙ sym c.told-words) c.requires.below c.loop-i.i
       (omega (arith, c.loop-i-test.true, c.told-kinds));
@@ -13,11 +13,11 @@ named_by-last-requires c = record {
 pub loop-i-preserved : goal.loop-i-preserved
 loop-i-preserved c =
     let so = c.loop-i.invariant in
-    let here = c.named_by-last.ensures in
+    let here = c.name_place.ensures in
     record {
       more = omega (arith, here.more, so.more);
-      below = below_next c.args.kinds.now c.args.words.now c.loop-i.i c.loop-i.last
-          c.named_by-last.result here.more so.below here.below;
+      below = below_next c.args.kinds.now c.args.words.now c.loop-i.i c.loop-i.named
+          c.name_place.new.named here.more so.below here.below;
       least = λ n le all. here.least n (so.least n le all)
           (each_of (IsFieldBelow n) c.args.kinds.now c.args.words.now
           (c.told-kinds ∙ sym c.told-words) all c.loop-i.i
@@ -26,6 +26,6 @@ loop-i-preserved c =
 
 pub returns-clause-below : goal.returns-clause-below
 returns-clause-below c =
-    all_of (IsFieldBelow c.loop-i.last) c.args.kinds.now c.args.words.now
+    all_of (IsFieldBelow c.loop-i.named) c.args.kinds.now c.args.words.now
     (c.told-kinds ∙ sym c.told-words)
     (λ j lt. c.loop-i.invariant.below j (omega (arith, lt, c.told-kinds, c.loop-i-test.false)))
