@@ -15,7 +15,7 @@ import time
 
 ROWS = {
     "collector_tests": ["threads", "sleeping", "running"],
-    "heap_tests": ["missing", "sleeping", "threads"],
+    "heap_tests": ["block_threads", "missing", "sleeping", "threads"],
 }
 
 if len(sys.argv) > 2 or sys.argv[1:] and not sys.argv[1].isdigit():

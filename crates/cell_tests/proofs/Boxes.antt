@@ -1,5 +1,5 @@
 -- Heaps that open with boxes only: none of their cells has a term.
-use Rattle.std.proofs.Common.{◌∷◌, ℕ, zero, suc, List, [], None, refl}
+use Rattle.std.proofs.Common.{◌∷◌, zero, suc, List, [], None, refl}
 use Rattle.cell_words.specs.declared.fields.Field.{Field}
 use Rattle.cell_words.specs.declared.fields.Field.TheVariants as field
 use Rattle.heap_rule.specs.Opening.{FirstTerms}

@@ -33,14 +33,11 @@ shape_of cells = record { cells = cells; mutators = 2; setting = 0; first = rows
 pub opens : (cells : ℕ) → Opens nothing_added Counts (shape_of cells)
 opens cells =
     let s = opening_state (shape_of cells) in
-    let l = opening_lore no_terms 2 in (
+    let l = opening_lore no_terms 2 in
+    let there = in_map s l 0 record { reached = anchor refl; box = refl; old = refl } in (
       no_terms,
       first_terms,
-      record {
-        payload = payload_of s l 0;
-        anchor = in_map s l 0 record { reached = anchor refl; box = refl; old = refl };
-        counted = refl;
-      },
+      (payload_of s l 0, there, refl),
     )
 
 -- and of one whose client asks for nothing

@@ -2,7 +2,7 @@
 use Rattle.std.proofs.Common.{◌≡◌, ◌∙◌, ◌<◌, ◌≤◌, ◌+◌, ◌==◌, ◌∷◌, ◌++◌, ℕ, [], Bool, true, false}
 use Rattle.std.proofs.Common.{Option, Some, None, if◌then◌else◌, ap, refl, arith, length}
 use Rattle.std.proofs.lemmas.Bool.{eq-eqb}
-use Rattle.cell_tests.specs.Counting.{adding, one_more}
+use Rattle.cell_tests.specs.Counting.{adding}
 use Rattle.cell_tests.specs.declared.counter.Added.{Added}
 use Rattle.cell_tests.specs.Working.{HasNumbers, IsAt, IsIn, IsOut, in_with, out_with}
 use Rattle.cell_tests.specs.Working.{own_with, seat_with}
@@ -273,7 +273,7 @@ module _ (heap : HeapId) (sum : ℕ) (old : SeatView Added) where
         (finds.Field found))
         (own_with (found_at 0 ∷ []) None at.claims) (in_with at.status)
         (known_stored_if made (0 ∷ []) (at.first ∷ []) 0 0 (field.Num (count + 1)))
-        (one_more made record { sum = sum }).sum
+        (if made then sum + 1 else sum)
 
     written_as : (count : ℕ) (found : Field)
         → new.me ≡ told old.me

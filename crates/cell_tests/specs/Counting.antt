@@ -1,6 +1,6 @@
 -- A counter in field 0 of the anchor: the rule that it is the sum of what the mutators have added.
 -- Source: this project's.
-use Rattle.std.specs.Prelude.{ℕ, ◌≡◌, ◌+◌, Bool, true, false, List, [], ◌∷◌, Some}
+use Rattle.std.specs.Prelude.{ℕ, ◌≡◌, ◌+◌, List, [], ◌∷◌, Some, if◌then◌else◌}
 use Rattle.std.proofs.Common.{◌∙◌}
 use Rattle.cell_tests.specs.declared.counter.Added.{Added}
 use Rattle.cell_words.specs.Term.{num}
@@ -18,28 +18,19 @@ sum_of [] = 0
 sum_of (pass ∷ passes) = pass.sum + sum_of passes
 
 -- the anchor's field 0 is the number that the passes sum to
-pub record Counts (map : Map) (passes : List Added) : Type 0 where
-  pub payload : Payload
-  pub anchor : map 0 ≡ Some payload
-  pub counted : payload 0 ≡ Plain (num (sum_of passes))
+abbrev pub Counts : Map → List Added → Type 0
+Counts map passes =
+    (p : Payload) × (map 0 ≡ Some p) × (p 0 ≡ Plain (num (sum_of passes)))
 
 -- no smaller map has another anchor
 pub counts_on : (old new : Map) (passes : List Added) → Smaller old new → Counts old passes
     → Counts new passes
-counts_on old new passes smaller counts = record {
-  payload = counts.payload;
-  anchor = smaller.anchor ∙ counts.anchor;
-  counted = counts.counted;
-}
+counts_on old new passes smaller (p, at, counted) = (p, smaller.anchor ∙ at, counted)
 
--- the pass with one more, if it was made
-abbrev pub one_more : Bool → Added → Added
-one_more true pass = record { sum = pass.sum + 1 }
-one_more false pass = pass
-
--- a write over the old value that was made adds one
+-- the pass of a mutator after a write over the old value: one more, where the write was made
 abbrev pub adding : Field → Learned → Found → Added → Added
-adding old learned found pass = one_more (was_made old found) pass
+adding old learned found pass =
+    record { sum = if was_made old found then pass.sum + 1 else pass.sum }
 
 -- What a closed heap shows: field 0 of the anchor is this number.
 pub record CounterIs (words : List ℕ) (sum : ℕ) : Type 0 where

@@ -1,5 +1,5 @@
 //! The scan of a cell in one call, on a heap whose anchor names others.
-ghost use Rattle.std.specs.Prelude.{◌≡◌, ◌≤◌, IfOk, IfSome, Some};
+ghost use Rattle.std.specs.Prelude.{◌≡◌, IfOk, IfSome, Some};
 ghost use Rattle.cell_heap.specs.Scans.{scan_at};
 ghost use Rattle.cell_tests.specs.Collecting.{Drives, nothing};
 ghost use Rattle.heap_rule.specs.Asks.{MayComeIn};

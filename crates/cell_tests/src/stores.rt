@@ -1,7 +1,6 @@
 //! Stores after every event of a cycle: in async with the collector idle, tracing and sweeping, in
 //! sync1, and in sync2 before and after the end of the handshake. And whether two places hold one
 //! cell.
-ghost use Rattle.std.specs.Prelude.{◌≡◌};
 
 use crate::fetching::fetch_and_store;
 use crate::sameness::{ask_and_leave, ask_of_anchor};

@@ -1,5 +1,5 @@
 //! What a mutator does in these tests.
-ghost use Rattle.std.specs.Prelude.{◌≡◌, ◌<◌, ◌≤◌, ◌+◌, ℕ};
+ghost use Rattle.std.specs.Prelude.{◌≡◌, ◌<◌, ◌≤◌, ◌+◌};
 ghost use Rattle.cell_tests.specs.Working.{IsDone, IsIn, IsOut};
 
 use crate::counter::Added;

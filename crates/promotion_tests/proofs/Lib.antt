@@ -1,3 +1,4 @@
 pub mod Makings
 pub mod Openings
+pub mod Plain
 pub mod Sharing

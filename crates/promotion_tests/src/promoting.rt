@@ -6,8 +6,8 @@ ghost use Rattle.promotion_tests.specs.Two.{two};
 
 use crate::calls::{collect_roots, first_fields, make_both, promote_second};
 use crate::heaps::{close_one, come_in, leave, open_one, two_records};
-use cell_heap::{CellHeap, Image, MutSeat, NoMemory};
-use cell_words::Row;
+use crate::shown::{Cells, cells_of};
+use cell_heap::{CellHeap, MutSeat, NoMemory};
 use free_cells::{FreeQueue, Hints};
 use heap_rule::NoRule;
 use minor_heap::MinorHeap;
@@ -19,9 +19,6 @@ use std::sync::Wait;
 /// What the call gave; then how many cells the mutator has claimed, how many places it holds, and
 /// how many private records there are.
 pub(crate) type Found = (Result<usize, HeapFull>, u64, usize, u32);
-
-/// The fields of the first four cells of a closed heap, where it has them.
-pub(crate) type Cells = [Option<Row>; 4];
 
 /// The mutator of this seat promotes the record that names the other, and leaves.
 fn promote_by<R: Wait>(
@@ -87,30 +84,6 @@ fn make_by<R: Wait>(
     let given = make_both(rt, hints, &mut m);
     let found = (given, m.claims(), m.held_len(), 0);
     (leave(m), found)
-}
-
-/// The fields of a cell, where there is such a cell.
-fn row_of(image: &Image, cell: u32) -> Option<Row> {
-    if cell >= image.cells() {
-        return None;
-    }
-    Some([
-        image.field(cell, 0),
-        image.field(cell, 1),
-        image.field(cell, 2),
-        image.field(cell, 3),
-        image.field(cell, 4),
-        image.field(cell, 5),
-    ])
-}
-
-fn cells_of(image: &Image) -> Cells {
-    [
-        row_of(image, 0),
-        row_of(image, 1),
-        row_of(image, 2),
-        row_of(image, 3),
-    ]
 }
 
 /// The result of a promotion in a heap of so many cells, where hints name the cells from one on.

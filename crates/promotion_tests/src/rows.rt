@@ -1,8 +1,8 @@
 //! Rows, worked out by hand. Hints come in order, so that record 0 is copied to cell 1 and record 1
 //! to cell 2, where no row says otherwise; and nobody else claims.
 use crate::promoting::{collected, made, promoted};
+use crate::shown::{ANCHOR, FIRST, FREE, SECOND};
 use cell_words::Field::{Cell, Null, Num};
-use cell_words::Row;
 use mutator_seat::{HeapFull, Value};
 use std::test::Fail;
 
@@ -12,15 +12,6 @@ const FULL: HeapFull = HeapFull {
     began: 0,
     ended: 0,
 };
-
-/// The cells that may turn up: the anchor, the copies of both records, and a free cell.
-const ANCHOR: Option<Row> = Some([Num(0), Null, Null, Null, Null, Num(2)]);
-
-const FIRST: Option<Row> = Some([Num(5), Null, Null, Null, Null, Num(1)]);
-
-const SECOND: Option<Row> = Some([Cell(1), Cell(1), Null, Null, Null, Num(1)]);
-
-const FREE: Option<Row> = Some([Null, Null, Null, Null, Null, Null]);
 
 #[test]
 fn a_record_that_is_named_twice_is_copied_once(rt: HostRuntime) -> Result<(), Fail> {

@@ -1,3 +1,4 @@
+//! Which block is given, on rows worked out by hand.
 ghost use Rattle.free_blocks.specs.Blocks.{blocks_of, cells_of};
 ghost use Rattle.std.specs.Prelude.{◌<◌};
 

@@ -3,12 +3,13 @@ ghost use Rattle.std.specs.Prelude.{◌≡◌, ◌≤◌, true};
 ghost use Rattle.minor_heap.specs.Spans.{NoneMarked};
 ghost use Rattle.mutator_seat.specs.Bound.{IsBound};
 ghost use Rattle.record_copying.specs.Copies.{AreCopies};
-ghost use Rattle.copying_tests.specs.Two.{two};
+ghost use Rattle.promotion_tests.specs.Two.{two};
 
 use crate::cells::NextCells;
-use crate::heaps::{close_one, come_in, leave, open_one, two_records};
-use cell_heap::{Image, NoMemory};
-use cell_words::Row;
+use crate::heaps::{close_one, open_one, two_records};
+use crate::seats::{come_in, leave};
+use crate::shown::{Cells, cells_of};
+use cell_heap::NoMemory;
 use heap_rule::NoRule;
 use heap_table::CellHeap;
 use minor_heap::{MinorHeap, MinorRef};
@@ -18,9 +19,6 @@ use std::alloc::Global;
 
 /// How far a call came, and how many cells the mutator has claimed by then.
 pub(crate) type Step = (Progress, u64);
-
-/// The fields of the first four cells of a closed heap, where it has them.
-pub(crate) type Cells = [Option<Row>; 4];
 
 /// Copies at most so many records of what the second one reaches, where it gets at most so many
 /// cells.
@@ -83,30 +81,6 @@ fn copy_in_slices(
         table.place(MinorRef { number: 1 }),
     ];
     ([waits, one, again, other, nothing], places)
-}
-
-/// The fields of a cell, where there is such a cell.
-fn row_of(image: &Image, cell: u32) -> Option<Row> {
-    if cell >= image.cells() {
-        return None;
-    }
-    Some([
-        image.field(cell, 0),
-        image.field(cell, 1),
-        image.field(cell, 2),
-        image.field(cell, 3),
-        image.field(cell, 4),
-        image.field(cell, 5),
-    ])
-}
-
-pub(crate) fn cells_of(image: &Image) -> Cells {
-    [
-        row_of(image, 0),
-        row_of(image, 1),
-        row_of(image, 2),
-        row_of(image, 3),
-    ]
 }
 
 /// The five calls in a heap of four cells, and its cells after it was closed.

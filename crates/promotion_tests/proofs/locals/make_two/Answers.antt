@@ -1,6 +1,6 @@
 use Rattle.minor_heap.specs.declared.fields.MinorField.TheVariants as field
-use Rattle.copying_tests.proofs.Plain.{all_five}
-use Rattle.copying_tests.proofs.locals.make_two.Goals as goal
+use Rattle.promotion_tests.proofs.Plain.{all_five}
+use Rattle.promotion_tests.proofs.locals.make_two.Goals as goal
 
 pub returns : goal.returns
 returns c = record {

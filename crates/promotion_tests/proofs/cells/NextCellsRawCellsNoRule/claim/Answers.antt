@@ -1,7 +1,7 @@
 use Rattle.mutator_seat.specs.Bound.{bound}
 use Rattle.mutator_seat.proofs.Seeking.{look_seeks, seeking_then}
 use Rattle.mutator_seat.proofs.Tries.{claimed_then}
-use Rattle.copying_tests.proofs.cells.NextCellsRawCellsNoRule.claim.Goals as goal
+use Rattle.promotion_tests.proofs.cells.NextCellsRawCellsNoRule.claim.Goals as goal
 
 pub returns-in-Some-clause-got : goal.returns-in-Some-clause-got
 returns-in-Some-clause-got c =

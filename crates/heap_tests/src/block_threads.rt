@@ -1,4 +1,4 @@
-//! Two threads that ask at once. What is asserted stands on every schedule.
+//! Two threads that ask for blocks at once. What is asserted stands on every schedule.
 
 use free_blocks::FreeBlocks;
 use std::test::Fail;

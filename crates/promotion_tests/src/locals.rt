@@ -5,8 +5,9 @@ ghost use Rattle.mutator_seat.specs.Bound.{IsBound};
 ghost use Rattle.local_records.specs.Local.{IsLocal};
 
 use crate::cells::NextCells;
-use crate::heaps::{close_one, come_in, leave, open_one};
-use crate::slices::{Cells, cells_of};
+use crate::heaps::{close_one, open_one};
+use crate::seats::{come_in, leave};
+use crate::shown::{Cells, cells_of};
 use cell_heap::NoMemory;
 use heap_rule::NoRule;
 use heap_table::CellHeap;

@@ -1,22 +1,13 @@
-//! Rows, worked out by hand. Cells are claimed in order from cell 1 on, and nobody else claims.
+//! Rows of copies a part at a time, worked out by hand. Cells are claimed in order from cell 1 on,
+//! and nobody else claims.
 use crate::locals::{aged, promoted, shared};
+use crate::shown::{ANCHOR, FIRST, FREE, SECOND};
 use crate::slices::{copied, forgotten};
-use cell_words::Field::{Cell, Null, Num};
-use cell_words::Row;
 use local_records::NotMade::{Full, Unfit};
 use local_references::{LocalRef, Root};
 use minor_heap::{MinorField, MinorRef};
 use record_copying::Progress::{Done, NoCell, Part};
 use std::test::Fail;
-
-/// The cells that turn up: the anchor, the copies of both records, and a free cell.
-const ANCHOR: Option<Row> = Some([Num(0), Null, Null, Null, Null, Num(2)]);
-
-const FIRST: Option<Row> = Some([Num(5), Null, Null, Null, Null, Num(1)]);
-
-const SECOND: Option<Row> = Some([Cell(1), Cell(1), Null, Null, Null, Num(1)]);
-
-const FREE: Option<Row> = Some([Null, Null, Null, Null, Null, Null]);
 
 #[test]
 fn a_copy_goes_on_where_it_was(rt: HostRuntime) -> Result<(), Fail> {
