@@ -4,6 +4,7 @@ use Rattle.std.proofs.Common.{length, refl, sym, ◌∙◌, ap, subst, arith}
 use Rattle.std.proofs.lemmas.List.{append_assoc, append-nil}
 use Rattle.cell_words.specs.declared.fields.Field.{Field}
 use Rattle.cell_words.specs.declared.fields.Field.TheVariants as field
+use Rattle.run_limits.specs.declared.TheConstants.{MOST_COMMANDS}
 use Rattle.core_machine.specs.declared.events.Event.TheVariants as event
 use Rattle.core_machine.specs.declared.events.Found.TheVariants as finds
 use Rattle.core_machine.specs.declared.events.Taken.{Taken}
@@ -86,7 +87,7 @@ module _ (a b d : Bound MailPass) (held position fresh : ℕ) (inside : IsIn a)
     (is : held ≡ length a.seat.me.own.held) (ends : EndsAt a b held position) (item : Item)
     (made : MakesBox b fresh (item_values item) d) (position_is : item.position ≡ position + 1)
     (sender_is : item.sender ≡ a.seat.me.number + 1)
-    (few : length a.seat.me.pass.sends < 100_000) where
+    (few : length a.seat.me.pass.sends < MOST_COMMANDS) where
   abbrev sent : Sent
   sent = record { position = item.position; value = item.value }
 
@@ -182,7 +183,7 @@ module _ (a b d : Bound MailPass) (held position fresh : ℕ) (inside : IsIn a)
         }))
         (sender_is
         ∙ ap (λ (n : ℕ). n + 1) (sym goes_d.number ∙ sym kept.number));
-    few = subst (λ (p : MailPass). length p.sends < 100_000)
+    few = subst (λ (p : MailPass). length p.sends < MOST_COMMANDS)
         (sym (kept.pass ∙ pass_d)) few;
   }
 

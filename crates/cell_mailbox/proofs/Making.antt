@@ -1,5 +1,6 @@
 -- The values of an item's box fit words, and none of them is a place.
-use Rattle.std.proofs.Common.{◌≡◌, ◌<◌, ◌≤◌, ◌^◌, ℕ, arith}
+use Rattle.std.proofs.Common.{◌≡◌, ◌<◌, ◌≤◌, ◌+◌, ◌^◌, ℕ, arith}
+use Rattle.run_limits.specs.declared.TheConstants.{MOST_VERSIONS}
 use Rattle.heap_rule.specs.declared.view.View.{View}
 use Rattle.mail_rule.specs.declared.items.Item.{Item}
 use Rattle.mail_rule.specs.declared.mail_pass.MailPass.{MailPass}
@@ -9,7 +10,7 @@ use Rattle.cell_making.specs.Makes.{MayName, value_at}
 use Rattle.cell_making.proofs.Naming.{all_at}
 use Rattle.cell_mailbox.specs.Makes.{item_values}
 
-pub may_item : (v : View MailPass) (end : ℕ) (item : Item) → item.position ≤ 6400001
+pub may_item : (v : View MailPass) (end : ℕ) (item : Item) → item.position ≤ MOST_VERSIONS + 1
     → item.sender < 2 ^ 32 → item.value < 2 ^ 32 → (i : ℕ) → i < 5
     → MayName v end (value_at (item_values item) i)
 may_item v end item low few small i lt =

@@ -186,7 +186,8 @@ pub paces_three : (a b c d : Bound MailPass) → ReadsTimes 1 a b → ReadsTimes
 paces_three a b c d first second third n few =
     let three : Paces n (((n + 1) + 1) + 1) a d =
     paces_then a b d n (n + 1) (((n + 1) + 1) + 1) (first n (omega (arith, few)))
-    (paces_then b c d (n + 1) ((n + 1) + 1) (((n + 1) + 1) + 1) (second (n + 1) (omega (arith, few)))
+    (paces_then b c d (n + 1) ((n + 1) + 1) (((n + 1) + 1) + 1)
+    (second (n + 1) (omega (arith, few)))
     (third ((n + 1) + 1) (omega (arith, few)))) in
     paces_within a d n (((n + 1) + 1) + 1) n (n + 3) (omega arith) (omega arith) three
 

@@ -23,6 +23,7 @@ use cell_making::fill_box;
 use free_cells::Hints;
 use mail_rule::{Item, MailPass, Sent};
 use mutator_seat::{Choice, HeapFull, Moved, Mutator, Value};
+use run_limits::{MOST_COMMANDS, MOST_VERSIONS};
 use std::marker::Brand;
 use std::sync::Wait;
 use thread_waits::Backoff;
@@ -41,7 +42,7 @@ pub fn send<R: Wait>(
     requires room { length m.old.seat.me.own.held + 8 ≤ m.old.seat.me.room }
     requires sender { sender ≡ m.old.seat.me.number + 1 }
     requires value { value < 2 ^ 32 }
-    requires few { length m.old.seat.me.pass.sends < 100000 }
+    requires few { length m.old.seat.me.pass.sends < MOST_COMMANDS }
     ensures sent { IfOk result (λ position. Sends m.old m.new
         (record { position = position; value = value })) }
     ensures full { IfErr result (λ full. FindsFullHeap m.old m.new full) }
@@ -76,7 +77,7 @@ fn try_to_send<R: Wait>(
     requires room { length m.old.seat.me.own.held + 8 ≤ m.old.seat.me.room }
     requires sender { sender ≡ m.old.seat.me.number + 1 }
     requires value { value < 2 ^ 32 }
-    requires few { length m.old.seat.me.pass.sends < 100000 }
+    requires few { length m.old.seat.me.pass.sends < MOST_COMMANDS }
     ensures ends { PostEnds m.old m.new value result }
     ensures walk { Walked m.old m.new }
     ensures queue { queue_of hints.new ≡ queue_of hints.old }
@@ -122,7 +123,8 @@ fn find_last<R: Wait>(rt: &R, m: &mut Mutator<'_, MailPass>, held: usize) -> u64
     unreachable!()
 }
 
-/// Makes the box of an item, which nothing names yet.
+/// Makes the box of an item, which nothing names yet. There may be
+/// `MOST_VERSIONS` items before it.
 fn make_item<R: Wait>(
     rt: &R,
     hints: &mut Hints<'_>,
@@ -131,7 +133,7 @@ fn make_item<R: Wait>(
 ) -> Result<usize, HeapFull>
     requires inside { m.old.seat.me.presence.inside ≡ true }
     requires room { length m.old.seat.me.own.held < m.old.seat.me.room }
-    requires position { item.position ≤ 6400001 }
+    requires position { item.position ≤ MOST_VERSIONS + 1 }
     requires sender { item.sender < 2 ^ 32 }
     requires value { item.value < 2 ^ 32 }
     ensures made { IfOk result (λ fresh. MakesBox m.old fresh (item_values item) m.new) }

@@ -21,6 +21,7 @@ use free_cells::Hints;
 use minor_heap::{MinorHeap, MinorRef};
 use mutator_seat::{HeapFull, Mutator};
 use promotion::Promoter;
+use run_limits::MOST_COMMANDS;
 use std::sync::Wait;
 use version_store::{CommitFault, HeldVersion, STORE_PLACES};
 
@@ -73,7 +74,7 @@ pub(crate) fn commit_shared<R: Wait>(
     requires version { IsHeld m.old v }
     requires node { IsTreeAt m.old minor.now (at.Shared place) }
     requires below { v.number < versions }
-    requires few { length (commit_numbers m.old.seat.me.pass) < 100000 }
+    requires few { length (commit_numbers m.old.seat.me.pass) < MOST_COMMANDS }
     ensures number { IfOk result (λ number. number ≡ v.number + 1) }
     ensures pass { OnOk result (m.new.seat.me.pass ≡ committed (v.number + 1)
         (tree_of (root_at m.old v.place)) (tree_at m.old minor.now (at.Shared place))

@@ -31,6 +31,7 @@ use client_trees::{ClientSeat, NodeAt};
 use minor_heap::MinorHeap;
 use mutator_seat::HeapFull;
 use promotion::Promoter;
+use run_limits::MOST_COMMANDS;
 use std::sync::Wait;
 use version_store::{Cut, HeldVersion, STORE_PLACES};
 
@@ -187,7 +188,7 @@ pub trait StoreSeat: ClientSeat<Pass = Documents> {
         requires node { IsTreeAt (Self.bound self.old) minor.now node }
         requires shared { is_shared node ≡ true }
         requires below { v.number < versions }
-        requires few { length (commit_numbers (Self.bound self.old).seat.me.pass) < 100000 }
+        requires few { length (commit_numbers (Self.bound self.old).seat.me.pass) < MOST_COMMANDS }
         ensures number { IfOk result (λ number. number ≡ v.number + 1) }
         ensures pass { OnOk result ((Self.bound self.new).seat.me.pass ≡ committed (v.number + 1)
             (tree_of (root_at (Self.bound self.old) v.place))

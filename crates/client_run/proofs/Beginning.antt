@@ -4,6 +4,7 @@ use Rattle.std.proofs.Common.{List, [], ◌∷◌, length, sym, ◌∙◌, ap, s
 use Rattle.std.specs.Prelude.{slice_index_or}
 use Rattle.aged_nursery.specs.Aged.{Aged}
 use Rattle.cell_words.specs.Term.{null}
+use Rattle.run_limits.specs.declared.TheConstants.{MOST_CLIENTS}
 use Rattle.client_heap.specs.Shows.{node_term, state_of}
 use Rattle.client_heap.specs.Sound.{IsSound}
 use Rattle.client_trees.specs.declared.at.NodeAt.{NodeAt}
@@ -79,7 +80,7 @@ module _ (m : Bound Pass) (minor : Nursery) (r : MinorRef)
 
   -- a mutator that has just begun
   module _ (j : Journal) (copies most keep : ℕ)
-      (client : (1 ≤ j.log.client) × (j.log.client ≤ 64))
+      (client : (1 ≤ j.log.client) × (j.log.client ≤ MOST_CLIENTS))
       (step : (s : ClientState) → s.pass.keep ≡ keep → s.pass.commits ≡ []
       → tree_of s.draft ≡ empty → InStep j s)
       (many : 4_096 ≤ most) (room : minor.room ≡ most) (copied : copies ≡ most)

@@ -2,6 +2,7 @@
 -- heap that they ask for.
 -- Source: this project's.
 use Rattle.std.specs.Prelude.{ℕ, ◌≤◌}
+use Rattle.cell_words.specs.declared.controls.TheConstants.{GREATEST_CYCLES, GREATEST_POSITION}
 use Rattle.client_history.specs.declared.places.TheConstants.{LEAST_MINOR}
 use Rattle.client_run.specs.declared.options.Options.{Options}
 use Rattle.client_session.specs.declared.journal.Limits.{Limits as ClientLimits}
@@ -11,11 +12,11 @@ use Rattle.version_rule.specs.Opening.{first_rows}
 
 -- each number is within its range
 pub record IsWithin (o : Options) : Type 0 where
-  pub cells : (64 ≤ o.cells) × (o.cells ≤ 4_194_304)
+  pub cells : (64 ≤ o.cells) × (o.cells ≤ GREATEST_POSITION)
   pub minor : (LEAST_MINOR ≤ o.minor) × (o.minor ≤ 262_144)
   pub keep : (1 ≤ o.keep) × (o.keep ≤ 100)
   pub versions : (1 ≤ o.versions) × (o.versions ≤ 1_000_000)
-  pub cycles : o.cycles ≤ 4_000_000_000
+  pub cycles : o.cycles ≤ GREATEST_CYCLES
 
 -- the limits by which each command is answered
 abbrev pub limits_of : Options → Limits

@@ -2,6 +2,7 @@
 -- made.
 -- Source: this project's.
 use Rattle.std.specs.Prelude.{ℕ, ◌≡◌, ◌≤◌, ◌+◌, ◌*◌, true, [], length}
+use Rattle.run_limits.specs.declared.TheConstants.{MOST_CLIENTS}
 use Rattle.client_heap.specs.Shows.{state_of}
 use Rattle.client_heap.specs.Sound.{IsSound}
 use Rattle.client_history.specs.declared.places.TheConstants.{PLACES_BESIDES, PLACES_PER_RECORD}
@@ -19,7 +20,7 @@ client_state s m = state_of m s.nursery.heap s.draft s.base
 -- The mutator is in, and is this session's: the log is in step with its pass and its trail. Its
 -- held list has the draft's places and no more, and room after them.
 pub record MayAnswer (s : Session) (m : Bound Pass) : Type 0 where
-  pub client : (1 ≤ s.journal.log.client) × (s.journal.log.client ≤ 64)
+  pub client : (1 ≤ s.journal.log.client) × (s.journal.log.client ≤ MOST_CLIENTS)
   pub step : InStep s.journal (client_state s m)
   pub sound : IsSound m s.nursery.heap s.draft s.base
   pub ready : IsReady (client_state s m)

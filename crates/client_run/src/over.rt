@@ -9,6 +9,7 @@ use crate::session::Session;
 use client_heap::{OwnHeap, StoreSeat};
 use doc_model::{Command, Reply};
 use doc_tree::NoMemory;
+use run_limits::MOST_COMMANDS;
 use std::alloc::Global;
 use std::sync::Wait;
 
@@ -23,7 +24,7 @@ pub(crate) fn answer_over<M: StoreSeat, R: Wait>(
     command: &Command,
 ) -> Result<Reply, NoMemory>
     requires may { MayAnswer session.old (M.bound m.old) }
-    requires few { length session.old.journal.log.entries < 100000 }
+    requires few { length session.old.journal.log.entries < MOST_COMMANDS }
     ensures answered { IfOk result (Answered command.now session.old (M.bound m.old) session.new
         (M.bound m.new)) }
     ensures unanswered { OnErr result (Unanswered command.now session.old (M.bound m.old)

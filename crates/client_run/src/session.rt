@@ -17,6 +17,7 @@ use free_cells::Hints;
 use minor_heap::MinorField;
 use mutator_seat::Mutator;
 use promotion::Promoter;
+use run_limits::{MOST_CLIENTS, MOST_COMMANDS};
 use std::alloc::Global;
 use std::sync::Wait;
 
@@ -47,7 +48,7 @@ impl Session {
     /// The session of a client that was answered nothing yet. All its memory but the log's is taken
     /// here. Its mutator is one that is in, holds the anchor alone and made no version.
     pub fn new(alloc: Global, client: u32, limits: Limits) -> Result<Session, NoMemory>
-        requires client { (1 ≤ client) × (client ≤ 64) }
+        requires client { (1 ≤ client) × (client ≤ MOST_CLIENTS) }
         requires minor { LEAST_MINOR ≤ limits.minor }
         ensures new { IfOk result (IsNewSession limits client) }
     {
@@ -83,7 +84,7 @@ impl Session {
         command: &Command,
     ) -> Result<Reply, NoMemory>
         requires may { MayAnswer self.old m.old }
-        requires few { length self.old.journal.log.entries < 100000 }
+        requires few { length self.old.journal.log.entries < MOST_COMMANDS }
         ensures answered { IfOk result (Answered command.now self.old m.old self.new m.new) }
         ensures unanswered { OnErr result (Unanswered command.now self.old m.old self.new m.new) }
         ensures reads { is_reading command.now ≡ true

@@ -5,6 +5,7 @@ use Rattle.std.proofs.Common.{arith}
 use Rattle.std.proofs.lemmas.List.{length-map}
 use Rattle.std.proofs.lemmas.List.Filters.{length-filter_both}
 use Rattle.std.specs.List.{filter}
+use Rattle.run_limits.specs.declared.TheConstants.{MOST_COMMANDS}
 use Rattle.client_session.specs.Turns.{InStep, MayTurn, account_of, bounds}
 use Rattle.client_session.specs.declared.journal.Journal.{Journal}
 use Rattle.client_session.specs.declared.journal.Limits.{Limits as StoreLimits}
@@ -99,7 +100,7 @@ few_ok es =
       length-filter_both test other (λ e. refl) es,
     )
 
-pub may_of : (j new : Journal) (s : ClientState) → InStep j s → length j.log.entries < 100_000
+pub may_of : (j new : Journal) (s : ClientState) → InStep j s → length j.log.entries < MOST_COMMANDS
     → new.limits ≡ j.limits → new.last ≡ j.last
     → MayTurn new s
 may_of j new s step few limits last = record {

@@ -2,6 +2,7 @@
 -- Source: this project's.
 use Rattle.std.specs.Prelude.{ℕ, ◌≡◌, ◌≤◌, ◌<◌, ◌++◌, [], ◌∷◌, Option}
 use Rattle.std.specs.Prelude.{Some, None, IfSome, Result, Ok, Err, IfOk, false, length}
+use Rattle.run_limits.specs.declared.TheConstants.{MOST_COMMANDS}
 use Rattle.client_history.specs.declared.places.TheConstants.{BEGUN_ROOM, EDIT_SPARE}
 use Rattle.client_session.specs.Handles.{Handles}
 use Rattle.client_session.specs.declared.given.Given.{Given}
@@ -34,7 +35,7 @@ InStep j s = IsInStep (bounds j.limits) s j.last j.log
 pub record MayTurn (j : Journal) (s : ClientState) : Type 0 where
   pub keep : s.pass.keep ≡ j.limits.keep
   pub last : j.last ≤ s.pass.seen
-  pub few : length (commit_numbers s.pass) < 100_000
+  pub few : length (commit_numbers s.pass) < MOST_COMMANDS
 
 -- a command was answered with this
 pub record Answered (j : Journal) (c : Command) (s t : ClientState) (g : Given) : Type 0 where

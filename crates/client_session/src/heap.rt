@@ -22,6 +22,7 @@ use client_history::{
     BATCH_ROOM, CALL_PLACES, EDIT_SPARE, MADE_ROOM, SETTLED_ROOM, TREE_ROOM, WALK_PLACES,
 };
 use doc_tree::{EditFault, Names, NoMemory, Path, Text};
+use run_limits::MOST_COMMANDS;
 use std::alloc::Global;
 use std::sync::Wait;
 use version_rule::HeldVersion;
@@ -241,7 +242,7 @@ pub trait ClientHeap {
         requires node { (shown self.old).is_node at }
         requires shared { shared at ≡ true }
         requires below { v.number < versions }
-        requires few { length (commit_numbers (state self.old).pass) < 100000 }
+        requires few { length (commit_numbers (state self.old).pass) < MOST_COMMANDS }
         ensures number { IfOk result (λ number. number ≡ v.number + 1) }
         ensures pass { OnOk result ((state self.new).pass ≡ committed (v.number + 1)
             ((shown self.old).root v) ((shown self.old).tree at) (state self.old).pass) }

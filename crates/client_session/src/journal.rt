@@ -7,6 +7,7 @@ ghost use Rattle.doc_records.specs.Trees.{tree_of};
 ghost use Rattle.doc_tree.specs.Tree.{empty};
 
 use doc_model::Log;
+use run_limits::MOST_CLIENTS;
 use std::alloc::Global;
 
 /// How many versions can be asked for, the number of the last that can be made, and how many
@@ -30,7 +31,7 @@ pub struct Journal {
 impl Journal {
     /// The journal of a client that was answered nothing yet.
     pub fn new(alloc: Global, client: u32, limits: Limits) -> Journal
-        requires client { (1 ≤ client) × (client ≤ 64) }
+        requires client { (1 ≤ client) × (client ≤ MOST_CLIENTS) }
         ensures limits { result.limits ≡ limits }
         ensures last { result.last ≡ 0 }
         ensures client { result.log.client ≡ client }

@@ -16,6 +16,7 @@ use crate::journal::Journal;
 use client_history::SETTLED_ROOM;
 use doc_model::{Command, Entry, Reply};
 use doc_tree::NoMemory;
+use run_limits::{MOST_CLIENTS, MOST_COMMANDS};
 use std::alloc::Global;
 use std::sync::Wait;
 
@@ -129,8 +130,8 @@ impl Journal {
     ) -> Result<Reply, NoMemory>
         requires step { InStep self.old (H.state heap.old) }
         requires ready { IsReady (H.state heap.old) }
-        requires few { length self.old.log.entries < 100_000 }
-        requires client { (1 ≤ self.old.log.client) × (self.old.log.client ≤ 64) }
+        requires few { length self.old.log.entries < MOST_COMMANDS }
+        requires client { (1 ≤ self.old.log.client) × (self.old.log.client ≤ MOST_CLIENTS) }
         ensures enters { IfOk result (λ reply. Enters self.old self.new command.now reply
             (H.state heap.old) (H.state heap.new)) }
         ensures step { InStep self.new (H.state heap.new) }
@@ -160,7 +161,7 @@ impl Journal {
     /// Takes an answer into the log, and hands its reply on.
     fn enter(&mut self, command: Command, given: Given) -> Reply
         requires spare { 1 ≤ self.old.log.spare }
-        requires few { length self.old.log.entries < 100_000 }
+        requires few { length self.old.log.entries < MOST_COMMANDS }
         ensures reply { result ≡ given.reply }
         ensures entries { self.new.log.entries ≡ self.old.log.entries ++ record {
           client = self.old.log.client;

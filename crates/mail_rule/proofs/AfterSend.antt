@@ -9,6 +9,7 @@ use mathlib.Core.Option.{some}
 use lib.ListN.{get_elem?}
 use Rattle.atomic_table.proofs.Lists.{at_set}
 use Rattle.cell_words.specs.Term.{null, num}
+use Rattle.run_limits.specs.declared.TheConstants.{MOST_CLIENTS, MOST_COMMANDS}
 use Rattle.heap_rule.specs.Boxes.{Map, Payload, written_map}
 use Rattle.heap_rule.specs.Lore.{Named, Plain, put}
 use Rattle.heap_rule.specs.Numbered.{AreApart, HasNumber, NamesNumber}
@@ -197,7 +198,7 @@ module _ (map : Map) (passes : List MailPass) (h : HoldsMail map passes) (z c u 
   -- The passes.
 
   module _ (i : ℕ) (pass : MailPass) (at : get_elem? passes i ≡ some pass)
-      (few : length pass.sends < 100_000) (signed : letter.sender ≡ i + 1) where
+      (few : length pass.sends < MOST_COMMANDS) (signed : letter.sender ≡ i + 1) where
     abbrev sent : Sent
     sent = record { position = u + 1; value = letter.value }
 
@@ -249,7 +250,7 @@ module _ (map : Map) (passes : List MailPass) (h : HoldsMail map passes) (z c u 
     sends = record {
       letters = longer;
       takers = h.takers;
-      few = subst (λ (n : ℕ). n ≤ 64) (sym many) h.few;
+      few = subst (λ (n : ℕ). n ≤ MOST_CLIENTS) (sym many) h.few;
       signed = subst (λ (n : ℕ). All (IsSigned n) longer) (sym many)
           (All-push (IsSigned (length passes)) h.letters letter h.signed letter_signed);
       received = subst (λ (n : ℕ). All (λ (number : ℕ). number < n) h.takers) (sym many)

@@ -6,6 +6,7 @@ use Rattle.std.proofs.lemmas.List.Elements.{All-push}
 use mathlib.Core.Option.{some}
 use lib.ListN.{get_elem?}
 use Rattle.atomic_table.proofs.Lists.{at_set}
+use Rattle.run_limits.specs.declared.TheConstants.{MOST_CLIENTS}
 use Rattle.heap_rule.specs.Boxes.{Map, written_map}
 use Rattle.heap_rule.specs.Lore.{Named}
 use Rattle.heap_rule.specs.Numbered.{HasNumber, NamesNumber}
@@ -83,7 +84,7 @@ module _ (map : Map) (passes : List MailPass) (h : HoldsMail map passes) (c d u 
     takes = record {
       letters = h.letters;
       takers = takers;
-      few = subst (λ (n : ℕ). n ≤ 64) (sym many) h.few;
+      few = subst (λ (n : ℕ). n ≤ MOST_CLIENTS) (sym many) h.few;
       signed = subst (λ (n : ℕ). All (IsSigned n) h.letters) (sym many) h.signed;
       received = subst (λ (n : ℕ). All (λ (number : ℕ). number < n) takers) (sym many)
           (All-push (λ (number : ℕ). number < length passes) h.takers i h.received

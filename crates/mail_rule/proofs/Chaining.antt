@@ -8,10 +8,10 @@ use Rattle.mail_rule.specs.declared.mail_pass.MailPass.{MailPass}
 use Rattle.mail_rule.proofs.Standing.{item_of, position_low}
 
 module _ (map : Map) (passes : List MailPass) (h : HoldsMail map passes) where
-  behind_so_many : (left cell position : ℕ) → position + left ≡ length h.letters
+  after_so_many : (left cell position : ℕ) → position + left ≡ length h.letters
       → HasNumber map cell position
       → Behind h.letters map cell position
-  behind_so_many zero cell position so_many has =
+  after_so_many zero cell position so_many has =
       let is = item_of map passes h cell position has in
       elim is.next [
         | inl end ↦ record {
@@ -23,12 +23,12 @@ module _ (map : Map) (passes : List MailPass) (h : HoldsMail map passes) where
             let low = position_low map passes h next.cell (position + 1) next.item in
             omega (arith, low, so_many))
       ]
-  behind_so_many (suc left) cell position so_many has =
+  after_so_many (suc left) cell position so_many has =
       let is = item_of map passes h cell position has in
       elim is.next [
         | inl end ↦ absurd (let e = end.last in omega (arith, e, so_many))
         | inr next ↦
-            let rest = behind_so_many left next.cell (position + 1) (omega (arith, so_many))
+            let rest = after_so_many left next.cell (position + 1) (omega (arith, so_many))
             next.item in
             record {
               cells = next.cell ∷ rest.cells;
@@ -39,8 +39,8 @@ module _ (map : Map) (passes : List MailPass) (h : HoldsMail map passes) where
             }
       ]
 
-  pub behind : (cell position : ℕ) → HasNumber map cell position
+  pub after : (cell position : ℕ) → HasNumber map cell position
       → Behind h.letters map cell position
-  behind cell position has =
+  after cell position has =
       let low = position_low map passes h cell position has in
-      behind_so_many (length h.letters - position) cell position (omega (arith, low)) has
+      after_so_many (length h.letters - position) cell position (omega (arith, low)) has

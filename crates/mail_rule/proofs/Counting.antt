@@ -52,18 +52,18 @@ module _ (rest : ℕ → List ℕ) (one position : ℕ) where
         (IsPermutation-refl
         (position ∷ (rest first ++ flat_map rest (range_with_len (first + 1) many))))
     | inr other ↦
-        let behind = flat_map rest (range_with_len (first + 1) many) in
+        let later = flat_map rest (range_with_len (first + 1) many) in
         let above : first + 1 ≤ one = over first one low other in
         let below : one < first + 1 + many = omega (arith, high) in
-        subst (λ (ns : List ℕ). IsPermutation (position ∷ (rest first ++ behind))
+        subst (λ (ns : List ℕ). IsPermutation (position ∷ (rest first ++ later))
         (ns ++ flat_map more (range_with_len (first + 1) many))) (sym (more_else first other))
-        (IsPermutation-trans (position ∷ (rest first ++ behind))
-        (rest first ++ position ∷ behind)
+        (IsPermutation-trans (position ∷ (rest first ++ later))
+        (rest first ++ position ∷ later)
         (rest first ++ flat_map more (range_with_len (first + 1) many))
-        (IsPermutation-sym (rest first ++ position ∷ behind)
-        (position ∷ (rest first ++ behind))
-        (IsPermutation-middle (rest first) position behind))
-        (IsPermutation-append_right (rest first) (position ∷ behind)
+        (IsPermutation-sym (rest first ++ position ∷ later)
+        (position ∷ (rest first ++ later))
+        (IsPermutation-middle (rest first) position later))
+        (IsPermutation-append_right (rest first) (position ∷ later)
         (flat_map more (range_with_len (first + 1) many))
         (one_more (first + 1) many above below)))
   ]

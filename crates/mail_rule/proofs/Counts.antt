@@ -11,6 +11,7 @@ use Rattle.std.proofs.lemmas.List.Sorted.{length_permutation}
 use mathlib.Core.Option.{some}
 use lib.ListN.{get_elem?}
 use Rattle.atomic_table.proofs.Lists.{at_index}
+use Rattle.run_limits.specs.declared.TheConstants.{MOST_COMMANDS, MOST_VERSIONS}
 use Rattle.heap_rule.specs.Boxes.{Map}
 use Rattle.heap_rule.specs.Numbered.{HasNumber}
 use Rattle.mail_rule.specs.Counted.{EachOnce, WasSent, all_sent, all_taken, sent_in, taken_in}
@@ -39,8 +40,9 @@ flat_same f g (pass ∷ passes) first each =
     ∙ ap g (let e : first + suc k ≡ first + 1 + k = omega arith in e)))
 
 few_sent : (passes : List MailPass)
-    → ((k : ℕ) (pass : MailPass) → get_elem? passes k ≡ some pass → length pass.sends ≤ 100_000)
-    → length (all_sent passes) ≤ 100_000 * length passes
+    → ((k : ℕ) (pass : MailPass) → get_elem? passes k ≡ some pass
+    → length pass.sends ≤ MOST_COMMANDS)
+    → length (all_sent passes) ≤ MOST_COMMANDS * length passes
 few_sent [] each = omega arith
 few_sent (pass ∷ passes) each =
     let few = each 0 pass refl in
@@ -127,13 +129,13 @@ module _ (map : Map) (passes : List MailPass) (h : HoldsMail map passes) where
       subst IsStrictlyIncreasing (sym (sent_is number pass at))
       (positions_rise (number + 1) 1 (senders h.letters))
 
-  pub sends_few : length (all_sent passes) ≤ 6_400_000
+  pub sends_few : length (all_sent passes) ≤ MOST_VERSIONS
   sends_few =
       let each = few_sent passes (λ number pass at. (h.own number pass at).few) in
       let few = h.few in
       omega (arith, each, few)
 
-  pub letters_few : length h.letters ≤ 6_400_000
+  pub letters_few : length h.letters ≤ MOST_VERSIONS
   letters_few = let many = sends_many in let few = sends_few in omega (arith, many, few)
 
   pub boxes_few : (cell position : ℕ) → HasNumber map cell position

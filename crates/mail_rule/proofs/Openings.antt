@@ -6,6 +6,7 @@ use mathlib.Core.Option.{some, some-injective}
 use lib.ListN.{get_elem?}
 use Rattle.cell_words.specs.declared.fields.Field.{Field}
 use Rattle.cell_words.specs.Term.{null}
+use Rattle.run_limits.specs.declared.TheConstants.{MOST_CLIENTS}
 use Rattle.core_machine.specs.State.{State, field_of, opening}
 use Rattle.core_machine.specs.Words.{is_box_kind}
 use Rattle.dlg_core.specs.Reachable.{anchor, named}
@@ -78,12 +79,13 @@ module _ (cells : ℕ) (rooms : List ℕ) (known : ℕ) where
   first_own : (number : ℕ) → IsOwn [] [] number (opening_pass 0 0)
   first_own number = record { sends = refl; takes = refl; few = omega arith }
 
-  opens_mail : (setting mutators : ℕ) → mutators ≤ 64
+  opens_mail : (setting mutators : ℕ) → mutators ≤ MOST_CLIENTS
       → HoldsMail map (passes_from opening_pass setting 0 mutators)
   opens_mail setting mutators few = record {
     letters = [];
     takers = [];
-    few = subst (λ (n : ℕ). n ≤ 64) (sym (as_many_open opening_pass setting 0 mutators)) few;
+    few = subst (λ (n : ℕ). n ≤ MOST_CLIENTS)
+        (sym (as_many_open opening_pass setting 0 mutators)) few;
     signed = All-nil (IsSigned (length (passes_from opening_pass setting 0 mutators)));
     received = All-nil (λ (number : ℕ).
         number < length (passes_from opening_pass setting 0 mutators));

@@ -3,6 +3,7 @@ use Rattle.std.proofs.Common.{◌≡◌, ◌≢◌, ℕ, zero, suc, ◌+◌, ◌
 use Rattle.std.proofs.Common.{sym, ◌∙◌, ap, subst, arith}
 use Rattle.cell_words.specs.declared.fields.Field.TheVariants as field
 use Rattle.cell_words.specs.Term.{num}
+use Rattle.run_limits.specs.declared.TheConstants.{MOST_CLIENTS}
 use Rattle.core_machine.specs.Next.{found_by}
 use Rattle.core_machine.specs.State.{State, field_of, target_of}
 use Rattle.core_machine.specs.declared.events.Event.TheVariants as event
@@ -83,7 +84,7 @@ module _ (v : View MailPass) (s : State) (l : Lore) (passes : List MailPass)
   }
     where
       sender_low : (position : ℕ) → position ≤ length h.letters
-          → (letter_at h.letters position).sender ≤ 64
+          → (letter_at h.letters position).sender ≤ MOST_CLIENTS
       sender_low zero low = omega arith
       sender_low (suc k) low =
           let most = (h.signed k no_letter (omega (arith, low))).few in let few = h.few in

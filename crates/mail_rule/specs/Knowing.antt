@@ -6,6 +6,7 @@ use Rattle.std.specs.Prelude.{slice_index_or}
 use Rattle.cell_words.specs.declared.fields.Field.{Field}
 use Rattle.cell_words.specs.declared.fields.Field.TheVariants as field
 use Rattle.cell_words.specs.Term.{Term, num}
+use Rattle.run_limits.specs.declared.TheConstants.{MOST_COMMANDS}
 use Rattle.core_machine.specs.declared.events.Found.{Found}
 use Rattle.heap_rule.specs.Asks.{known_of, target}
 use Rattle.heap_rule.specs.Lore.{was_made}
@@ -59,7 +60,7 @@ pub record MaySend (v : View MailPass) (place box : ℕ) (sent : Sent) : Type 0 
     sender = v.number + 1;
     value = sent.value;
   })
-  pub few : length v.pass.sends < 100_000
+  pub few : length v.pass.sends < MOST_COMMANDS
 
 -- And for a take: the anchor's place, that of the item which was taken last when it was read, and
 -- that of the item after it.

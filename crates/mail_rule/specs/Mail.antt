@@ -11,6 +11,7 @@ use Rattle.std.specs.Prelude.{length, All, Some}
 use mathlib.Core.Option.{some}
 use lib.ListN.{get_elem?}
 use Rattle.cell_words.specs.Term.{null, num}
+use Rattle.run_limits.specs.declared.TheConstants.{MOST_CLIENTS, MOST_COMMANDS}
 use Rattle.heap_rule.specs.Boxes.{Map, Payload}
 use Rattle.heap_rule.specs.Lore.{Entry, Named, Plain}
 use Rattle.heap_rule.specs.Numbered.{AreApart, HasNumber, NamesNumber}
@@ -56,13 +57,13 @@ pub record IsOwn (letters : List Letter) (takers : List ℕ) (number : ℕ) (pas
   where
     pub sends : pass.sends ≡ sends_of letters (number + 1)
     pub takes : pass.takes ≡ takes_of letters takers number
-    pub few : length pass.sends ≤ 100_000
+    pub few : length pass.sends ≤ MOST_COMMANDS
 
 pub record HoldsMail (map : Map) (passes : List MailPass) : Type 0 where
   -- the items that were sent, by position, and who took the first of them
   pub letters : List Letter
   pub takers : List ℕ
-  pub few : length passes ≤ 64
+  pub few : length passes ≤ MOST_CLIENTS
   pub signed : All (IsSigned (length passes)) letters
   pub received : All (λ (number : ℕ). number < length passes) takers
   pub own : (number : ℕ) (pass : MailPass) → get_elem? passes number ≡ some pass

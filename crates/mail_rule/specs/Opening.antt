@@ -3,6 +3,7 @@
 use Rattle.std.specs.Prelude.{◌≡◌, ◌≤◌, List, [], ◌∷◌, None}
 use Rattle.cell_words.specs.declared.fields.Field.{Field}
 use Rattle.cell_words.specs.declared.fields.Field.TheVariants as field
+use Rattle.run_limits.specs.declared.TheConstants.{MOST_CLIENTS}
 use Rattle.heap_rule.specs.Lore.{Terms}
 use Rattle.heap_rule.specs.Shape.{Shape}
 
@@ -23,4 +24,4 @@ first_terms = λ x. None
 -- a heap that opens so, whatever its setting
 pub record OpensMail (h : Shape) : Type 0 where
   pub first : h.first ≡ first_rows
-  pub few : h.mutators ≤ 64
+  pub few : h.mutators ≤ MOST_CLIENTS

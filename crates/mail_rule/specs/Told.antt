@@ -2,6 +2,7 @@
 -- Source: this project's.
 use Rattle.std.specs.Prelude.{ℕ, ◌≡◌, ◌≤◌, ◌+◌, ◌⊎◌}
 use Rattle.cell_words.specs.declared.fields.Field.TheVariants as field
+use Rattle.run_limits.specs.declared.TheConstants.{MOST_CLIENTS, MOST_VERSIONS}
 use Rattle.core_machine.specs.declared.events.Found.{Found}
 use Rattle.core_machine.specs.declared.events.Found.TheVariants as finds
 use Rattle.heap_rule.specs.declared.known.Learned.{Learned}
@@ -10,8 +11,8 @@ use Rattle.mail_rule.specs.declared.items.Item.{Item}
 
 -- there are at most so many items, and so many senders
 pub record IsSmall (item : Item) : Type 0 where
-  pub position : item.position ≤ 6_400_000
-  pub sender : item.sender ≤ 64
+  pub position : item.position ≤ MOST_VERSIONS
+  pub sender : item.sender ≤ MOST_CLIENTS
 
 -- what was found is the box of an item
 pub record TellsItem (tells : Learned) (found : Found) (item : Item) : Type 0 where

@@ -28,8 +28,10 @@ ghost use Rattle.mail_rule.specs.declared.items.Item.{Item};
 ghost use Rattle.mail_rule.specs.declared.items.Sent.{Sent};
 ghost use Rattle.mail_rule.specs.declared.mail_pass.MailPass.{MailPass};
 
-/// A heap whose first rows are the anchor and a box at position 0, with at most 64 mutators, opens
-/// with the rule.
+use run_limits::MOST_VERSIONS;
+
+/// A heap whose first rows are the anchor and a box at position 0, with at most `MOST_CLIENTS`
+/// mutators, opens with the rule.
 pub fn mail_opens()
     ensures terms { FirstTerms first_rows first_terms }
     ensures holds { (h : Shape) → OpensMail h → HoldsMail
@@ -89,10 +91,11 @@ pub fn reads_tell_items()
         → IsSmall item }
 {}
 
-/// There are at most 6,400,000 items, since each of 64 passes has at most 100,000 sends.
+/// There are at most `MOST_VERSIONS` items, since each of `MOST_CLIENTS` passes has at most
+/// `MOST_COMMANDS` sends.
 pub fn items_are_few()
     ensures sent { (map : Map) (passes : List MailPass) → HoldsMail map passes
-        → length (all_sent passes) ≤ 6_400_000 }
+        → length (all_sent passes) ≤ MOST_VERSIONS }
     ensures boxes { (map : Map) (passes : List MailPass) → HoldsMail map passes
         → (cell position : ℕ) → HasNumber map cell position
         → position ≤ length (all_sent passes) }

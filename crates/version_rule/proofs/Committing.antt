@@ -9,6 +9,7 @@ use Rattle.std.proofs.lemmas.List.Elements.{All-push, All-set, All-weaker}
 use mathlib.Core.Option.{some}
 use lib.ListN.{get_elem?}
 use Rattle.cell_words.specs.Term.{Term, null, num}
+use Rattle.run_limits.specs.declared.TheConstants.{MOST_CLIENTS, MOST_COMMANDS}
 use Rattle.doc_model.specs.Store.{tree_at}
 use Rattle.doc_tree.specs.Tree.{DocTree}
 use Rattle.heap_rule.specs.Boxes.{Map, Payload, written_map}
@@ -152,7 +153,7 @@ module _ (is_tree : Term → Type 0) (tree_of : Term → DocTree) (map : Map) (p
   in_step_still p fits step = in_step_on h.keep map new p step (cut_still p fits step)
 
   module _ (i : ℕ) (p : Pass) (at : get_elem? passes i ≡ some p)
-      (few : length p.commits < 100_000) (before : DocTree)
+      (few : length p.commits < MOST_COMMANDS) (before : DocTree)
       (was : tree_at h.trees u ≡ before) where
     in_step_new : IsInStep h.keep new (committed n before (tree_of root) p)
     in_step_new =
@@ -184,7 +185,7 @@ module _ (is_tree : Term → Type 0) (tree_of : Term → DocTree) (map : Map) (p
       trees = trees;
       keeps_some = h.keeps_some;
       keeps_few = h.keeps_few;
-      few = subst (λ (k : ℕ). k ≤ 64)
+      few = subst (λ (k : ℕ). k ≤ MOST_CLIENTS)
           (sym (length-set passes i (committed n before (tree_of root) p))) h.few;
       versions = versions_more passes h.trees i n p before (tree_of root) at
           (fits_at is_tree tree_of map passes h i p at) (sym count_is)

@@ -6,6 +6,7 @@ use Rattle.std.proofs.lemmas.List.Elements.{All-nil}
 use Rattle.std.proofs.lemmas.List.Sorted.{IsPermutation-refl}
 use Rattle.cell_words.specs.declared.fields.Field.{Field}
 use Rattle.cell_words.specs.Term.{Term, null}
+use Rattle.run_limits.specs.declared.TheConstants.{MOST_CLIENTS}
 use Rattle.core_machine.specs.State.{State, field_in, field_of, opening}
 use Rattle.core_machine.specs.Words.{is_box_kind}
 use Rattle.dlg_core.specs.Reachable.{anchor, named}
@@ -121,14 +122,15 @@ module _ (is_tree : Term → Type 0) (tree_of : Term → DocTree) (bare : is_tre
     none_made number zero = refl
     none_made number (suc n) = none_made (number + 1) n
 
-    pub opens_versions : (mutators : ℕ) → 1 ≤ setting → setting ≤ 100 → mutators ≤ 64
+    pub opens_versions : (mutators : ℕ) → 1 ≤ setting → setting ≤ 100 → mutators ≤ MOST_CLIENTS
         → HoldsVersions is_tree tree_of map (passes_from opening_pass setting 0 mutators)
     opens_versions mutators least most few = record {
       keep = setting;
       trees = empty ∷ [];
       keeps_some = least;
       keeps_few = most;
-      few = subst (λ (n : ℕ). n ≤ 64) (sym (as_many_open opening_pass setting 0 mutators)) few;
+      few = subst (λ (n : ℕ). n ≤ MOST_CLIENTS)
+          (sym (as_many_open opening_pass setting 0 mutators)) few;
       versions = record {
         opens = refl;
         fits = all_opening opening_pass setting (Fits (empty ∷ [])) fits_first 0 mutators;

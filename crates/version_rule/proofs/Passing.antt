@@ -8,6 +8,7 @@ use Rattle.std.proofs.lemmas.List.Elements.{All-head, All-push, All-set, All-tai
 use mathlib.Core.Option.{some, some-injective, some-ne-none}
 use lib.ListN.{get_elem?}
 use Rattle.cell_words.specs.Term.{Term, null, num}
+use Rattle.run_limits.specs.declared.TheConstants.{MOST_CLIENTS, MOST_COMMANDS}
 use Rattle.doc_tree.specs.Tree.{DocTree}
 use Rattle.heap_rule.specs.Boxes.{Map, Payload}
 use Rattle.heap_rule.specs.Lore.{Plain}
@@ -44,7 +45,7 @@ max_is P a b one other = elim (cases_lt a b) [
 
 -- no more than so many commits in each of all passes
 pub numbers_few : (keep : ℕ) (map : Map) (passes : List Pass) → All (IsInStep keep map) passes
-    → length (flat_map commit_numbers passes) ≤ 100_000 * length passes
+    → length (flat_map commit_numbers passes) ≤ MOST_COMMANDS * length passes
 numbers_few keep map [] all = omega arith
 numbers_few keep map (p ∷ passes) all =
     let few = (All-head (IsInStep keep map) p passes all).few in
@@ -130,7 +131,7 @@ module _ (is_tree : Term → Type 0) (tree_of : Term → DocTree) (map : Map) (p
       trees = h.trees;
       keeps_some = h.keeps_some;
       keeps_few = h.keeps_few;
-      few = subst (λ (n : ℕ). n ≤ 64) (sym (length-set passes i q)) h.few;
+      few = subst (λ (n : ℕ). n ≤ MOST_CLIENTS) (sym (length-set passes i q)) h.few;
       versions = versions_kept passes h.trees i p q at same fits h.versions;
       in_step = All-set (IsInStep h.keep map) passes i q step h.in_step;
       latest = h.latest;

@@ -7,6 +7,7 @@ use Rattle.std.specs.Prelude.{Bool, true, false, slice_index_or}
 use Rattle.cell_words.specs.declared.fields.Field.{Field}
 use Rattle.cell_words.specs.declared.fields.Field.TheVariants as field
 use Rattle.cell_words.specs.Term.{Term, null, num, number}
+use Rattle.run_limits.specs.declared.TheConstants.{MOST_COMMANDS}
 use Rattle.core_machine.specs.declared.events.Found.{Found}
 use Rattle.core_machine.specs.declared.events.Found.TheVariants as finds
 use Rattle.doc_tree.specs.Tree.{DocTree}
@@ -91,7 +92,7 @@ pub record MayCommit (is_tree : Term → Type 0) (v : View Pass) (place latest b
   pub root_there : root < length v.own.held
   pub root_is : known_of v root ≡ knows.Record made
   pub spells : is_tree made
-  pub few : length v.pass.commits < 100_000
+  pub few : length v.pass.commits < MOST_COMMANDS
 
 -- And to cut the link of a version: that one, and one that shows that as many as stay were made
 -- from it on.

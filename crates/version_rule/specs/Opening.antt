@@ -3,6 +3,7 @@
 use Rattle.std.specs.Prelude.{◌≡◌, ◌≤◌, List, [], ◌∷◌, Some, None}
 use Rattle.cell_words.specs.declared.fields.Field.{Field}
 use Rattle.cell_words.specs.declared.fields.Field.TheVariants as field
+use Rattle.run_limits.specs.declared.TheConstants.{MOST_CLIENTS}
 use Rattle.heap_rule.specs.Lore.{Terms, put}
 use Rattle.heap_rule.specs.Shape.{Shape}
 use Rattle.version_rule.specs.Spelling.{bare_root}
@@ -30,4 +31,4 @@ pub record OpensVersions (h : Shape) : Type 0 where
   pub first : h.first ≡ first_rows
   pub keeps_some : 1 ≤ h.setting
   pub keeps_few : h.setting ≤ 100
-  pub few : h.mutators ≤ 64
+  pub few : h.mutators ≤ MOST_CLIENTS

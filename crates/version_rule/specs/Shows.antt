@@ -5,6 +5,7 @@ use Rattle.std.specs.Prelude.{List, ℕ, ◌≡◌, ◌≢◌, ◌≤◌, ◌+�
 use Rattle.cell_words.specs.declared.fields.Field.TheVariants as field
 use Rattle.cell_words.specs.Field.{pack_field_of}
 use Rattle.cell_words.specs.Term.{Term}
+use Rattle.run_limits.specs.declared.TheConstants.{MOST_VERSIONS}
 use Rattle.core_machine.specs.declared.events.Taken.{Taken}
 use Rattle.doc_tree.specs.Tree.{DocTree}
 use Rattle.heap_rule.specs.Asks.{known_of}
@@ -30,7 +31,7 @@ pub record ShowsLatest (is_tree : Term → Type 0) (v w : View Pass) (place word
   pub spells : is_tree root
   pub not_below : v.pass.seen ≤ number
   pub newest : (other its : ℕ) (of : Term) → KnowsVersion v other its of → its ≤ number
-  pub few : number ≤ 6_400_000
+  pub few : number ≤ MOST_VERSIONS
   pub pass : w.pass ≡ seeing number v.pass
   pub seen : w.pass.seen ≡ number
 

@@ -3,6 +3,7 @@
 use Rattle.std.specs.Prelude.{ℕ, ◌≡◌, ◌≤◌, ◌+◌, ◌⊎◌}
 use Rattle.cell_words.specs.declared.fields.Field.TheVariants as field
 use Rattle.cell_words.specs.Term.{Term}
+use Rattle.run_limits.specs.declared.TheConstants.{MOST_VERSIONS}
 use Rattle.core_machine.specs.declared.events.Found.{Found}
 use Rattle.core_machine.specs.declared.events.Found.TheVariants as finds
 use Rattle.heap_rule.specs.declared.known.Known.TheVariants as knows
@@ -22,7 +23,7 @@ pub record TellsLatest (is_tree : Term → Type 0) (v : View Pass) (tells : Lear
   pub spells : is_tree root
   pub not_below : v.pass.seen ≤ number
   pub newest : (place other : ℕ) (its : Term) → KnowsVersion v place other its → other ≤ number
-  pub few : number ≤ 6_400_000
+  pub few : number ≤ MOST_VERSIONS
 
 -- a version's root is a record that spells its tree
 pub record TellsRoot (is_tree : Term → Type 0) (number : ℕ) (root : Term) (tells : Learned)

@@ -7,6 +7,7 @@
 use Rattle.std.specs.Prelude.{ℕ, ◌≡◌, ◌≢◌, ◌<◌, ◌≤◌, ◌+◌, ◌-◌, ◌⊎◌, ◌==◌, ◌||◌, Bool, List}
 use Rattle.std.specs.Prelude.{length, All, Some}
 use Rattle.cell_words.specs.Term.{Term, null, num}
+use Rattle.run_limits.specs.declared.TheConstants.{MOST_CLIENTS, MOST_COMMANDS}
 use Rattle.doc_model.specs.Store.{tree_at}
 use Rattle.doc_tree.specs.Tree.{DocTree}
 use Rattle.heap_rule.specs.Boxes.{Map, Payload}
@@ -39,7 +40,7 @@ pub record IsCut (keep count number : ℕ) (link : Entry) : Type 0 where
 -- what the rule says of one pass
 pub record IsInStep (keep : ℕ) (map : Map) (pass : Pass) : Type 0 where
   pub keeps : pass.keep ≡ keep
-  pub few : length pass.commits ≤ 100_000
+  pub few : length pass.commits ≤ MOST_COMMANDS
   pub reads_seen : All (λ (r : Reading). r.number ≤ pass.seen) pass.reads
   pub commits_seen : All (λ (c : Commit). c.number ≤ pass.seen) pass.commits
   pub cut_seen : pass.cut ≤ pass.seen
@@ -78,7 +79,7 @@ module _ (is_tree : Term → Type 0) (tree_of : Term → DocTree) where
     pub trees : List DocTree
     pub keeps_some : 1 ≤ keep
     pub keeps_few : keep ≤ 100
-    pub few : length passes ≤ 64
+    pub few : length passes ≤ MOST_CLIENTS
     pub versions : HasVersions passes trees
     pub in_step : All (IsInStep keep map) passes
     pub latest : HasLatest map (length trees - 1)

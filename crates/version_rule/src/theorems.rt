@@ -40,7 +40,7 @@ ghost use Rattle.version_rule.specs.Versions.{HoldsVersions, is_fixed};
 use crate::spelling::Spelling;
 
 /// A heap whose first rows are the anchor, version 0 and the root of the empty tree, with at most
-/// 64 mutators and a setting from 1 to 100, opens with the rule.
+/// `MOST_CLIENTS` mutators and a setting from 1 to 100, opens with the rule.
 pub fn versions_open<S: Spelling>()
     ensures terms { FirstTerms first_rows first_terms }
     ensures holds { (h : Shape) → OpensVersions h → HoldsVersions S.is_tree S.tree_of

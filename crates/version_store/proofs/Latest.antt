@@ -4,6 +4,7 @@ use Rattle.std.proofs.Common.{sym, ◌∙◌, ap, subst, arith, max}
 use Rattle.cell_words.specs.declared.fields.Field.{Field}
 use Rattle.cell_words.specs.declared.fields.Field.TheVariants as field
 use Rattle.cell_words.specs.Term.{IsFive, Term}
+use Rattle.run_limits.specs.declared.TheConstants.{MOST_VERSIONS}
 use Rattle.core_machine.specs.declared.events.Event.TheVariants as event
 use Rattle.core_machine.specs.declared.events.Found.TheVariants as finds
 use Rattle.doc_tree.specs.Tree.{DocTree}
@@ -178,7 +179,7 @@ gives_latest a b c place number is first second =
       not_below = subst (λ (n : ℕ). a.seat.me.pass.seen ≤ n) (sym same) first.not_below;
       newest = λ other its root knows. subst (λ (n : ℕ). its ≤ n) (sym same)
           (first.newest other its root knows);
-      few = subst (λ (n : ℕ). n ≤ 6_400_000) (sym same) first.few;
+      few = subst (λ (n : ℕ). n ≤ MOST_VERSIONS) (sym same) first.few;
       pass = second.pass ∙ first.pass
           ∙ ap (λ (n : ℕ). seeing n a.seat.me.pass) (sym same);
       claims = second.read.claims ∙ first.read.claims;

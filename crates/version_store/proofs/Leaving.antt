@@ -33,8 +33,8 @@ use Rattle.trails.specs.Claims.{look_of}
 use Rattle.version_rule.specs.Pass.{Pass}
 use Rattle.version_rule.specs.Versions.{is_fixed}
 use Rattle.version_store.specs.Writes.{Chosen, EndsLink, LosesOnce, ReadsAlone, Writes, WritesLink}
-use Rattle.version_store.specs.Writes.{WritesNothing, WritesOnce, chosen, exchange, is_act, is_write}
-use Rattle.version_store.specs.Writes.{kept_if}
+use Rattle.version_store.specs.Writes.{WritesNothing, WritesOnce, chosen, exchange, is_act}
+use Rattle.version_store.specs.Writes.{is_write, kept_if}
 use Rattle.held_places.proofs.Going.{calm_trail}
 
 chosen_append : (is : Event → Bool) (xs ys : List Taken)

@@ -6,6 +6,7 @@ use Rattle.std.proofs.lemmas.List.{append_assoc, append-nil, get_or_push, length
 use Rattle.cell_words.specs.declared.fields.Field.{Field}
 use Rattle.cell_words.specs.declared.fields.Field.TheVariants as field
 use Rattle.cell_words.specs.Term.{IsFive, Term}
+use Rattle.run_limits.specs.declared.TheConstants.{MOST_COMMANDS}
 use Rattle.core_machine.specs.declared.events.Found.{Found}
 use Rattle.core_machine.specs.declared.events.Found.TheVariants as finds
 use Rattle.core_machine.specs.Words.{same_field}
@@ -249,7 +250,7 @@ module _ (is_tree : Term → Type 0) (tree_of : Term → DocTree)
   term_is : term_at c tree ≡ term_at a tree
   term_is = ap term_told still_record
 
-  pub may_commit : is_tree (term_at a tree) → length c.seat.me.pass.commits < 100_000
+  pub may_commit : is_tree (term_at a tree) → length c.seat.me.pass.commits < MOST_COMMANDS
       → (at : Bound Pass) → Kept c at
       → MayCommit is_tree at.seat.me 0 v.place fresh tree
       (number_told (known_of c.seat.me v.place) + 1) (root_at c v.place) (term_at c tree)
@@ -289,10 +290,10 @@ module _ (is_tree : Term → Type 0) (tree_of : Term → DocTree)
         root_there = let before = claimed.tree_before in omega (arith, before, long, many);
         root_is = known tree ∙ still_record ∙ ap knows.Record (sym term_is);
         spells = subst is_tree (sym term_is) spells;
-        few = subst (λ (p : Pass). length p.commits < 100_000) (sym kept.pass) few;
+        few = subst (λ (p : Pass). length p.commits < MOST_COMMANDS) (sym kept.pass) few;
       }
 
-  pub may_pick : is_tree (term_at a tree) → length c.seat.me.pass.commits < 100_000
+  pub may_pick : is_tree (term_at a tree) → length c.seat.me.pass.commits < MOST_COMMANDS
       → PicksUpdate (HoldsVersions is_tree tree_of) is_fixed (picks_made tree_of c v.place tree) c 0
       0 (values.Held v.place) (values.Held fresh)
   may_pick spells few at kept same =

@@ -3,6 +3,7 @@
 use Rattle.std.specs.Prelude.{ℕ, ◌≡◌, ◌<◌, ◌≤◌, [], ◌∷◌, length}
 use Rattle.cell_words.specs.Term.{Term, null}
 use Rattle.cell_words.specs.declared.fields.Field.TheVariants as field
+use Rattle.run_limits.specs.declared.TheConstants.{MOST_VERSIONS}
 use Rattle.doc_tree.specs.Tree.{DocTree}
 use Rattle.heap_rule.specs.declared.known.Known.{Known}
 use Rattle.heap_rule.specs.declared.known.Known.TheVariants as knows
@@ -53,7 +54,7 @@ pub record GivesLatest (old new : Bound Pass) (v : HeldVersion) : Type 0 where
   pub not_below : old.seat.me.pass.seen ≤ v.number
   pub newest : (place number : ℕ) (root : Term) → KnowsVersion old.seat.me place number root
       → number ≤ v.number
-  pub few : v.number ≤ 6_400_000
+  pub few : v.number ≤ MOST_VERSIONS
   pub pass : new.seat.me.pass ≡ seeing v.number old.seat.me.pass
   pub claims : new.seat.me.own.claims ≡ old.seat.me.own.claims
 

@@ -3,6 +3,7 @@
 use Rattle.std.specs.Prelude.{ℕ, ◌≡◌, ◌≤◌, length}
 use Rattle.cell_words.specs.Term.{Term}
 use Rattle.cell_words.specs.declared.fields.Field.TheVariants as field
+use Rattle.run_limits.specs.declared.TheConstants.{MOST_VERSIONS}
 use Rattle.mutator_seat.specs.Bound.{Bound}
 use Rattle.version_rule.specs.Knowing.{KnowsVersion}
 use Rattle.version_rule.specs.Pass.{Pass, seeing}
@@ -18,7 +19,7 @@ pub record FindsLatest (old new : Bound Pass) (place : ℕ) : Type 0 where
   pub known : KnowsVersion new.seat.me place number root
   pub not_below : old.seat.me.pass.seen ≤ number
   pub newest : (other its : ℕ) (of : Term) → KnowsVersion old.seat.me other its of → its ≤ number
-  pub few : number ≤ 6_400_000
+  pub few : number ≤ MOST_VERSIONS
   pub pass : new.seat.me.pass ≡ seeing number old.seat.me.pass
 
 -- field 0 of the version at a place was this number, which is the one that was known

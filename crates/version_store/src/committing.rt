@@ -22,6 +22,7 @@ use crate::places::STORE_PLACES;
 use crate::reading::latest;
 use free_cells::Hints;
 use mutator_seat::{Choice, Moved, Mutator, Value};
+use run_limits::{MOST_COMMANDS, MOST_VERSIONS};
 use std::marker::Brand;
 use std::sync::Wait;
 use version_rule::{HeldVersion, Spelling, Versions};
@@ -43,7 +44,7 @@ pub fn commit<S: Spelling, R: Wait>(
     requires version { IsHeld m.old v }
     requires root { IsRecord m.old tree }
     requires spells { S.is_tree (term_at m.old tree) }
-    requires few { length m.old.seat.me.pass.commits < 100000 }
+    requires few { length m.old.seat.me.pass.commits < MOST_COMMANDS }
     ensures number { IfOk result (λ number. number ≡ v.number + 1) }
     ensures made { OnOk result (Committed S.is_tree S.tree_of m.old m.new v tree) }
     ensures rose { OnOk result (m.new.seat.me.own.claims ≡ m.old.seat.me.own.claims + 1) }
@@ -88,7 +89,7 @@ fn put_version<S: Spelling>(
     requires version { IsHeld m.old v }
     requires root { IsRecord m.old tree }
     requires spells { S.is_tree (term_at m.old tree) }
-    requires few { length m.old.seat.me.pass.commits < 100000 }
+    requires few { length m.old.seat.me.pass.commits < MOST_COMMANDS }
     ensures number { IfOk result (λ number. number ≡ v.number + 1) }
     ensures made { OnOk result (Committed S.is_tree S.tree_of m.old m.new v tree) }
     ensures newer { IfErr result (λ newer. FindsNewer m.old m.new v newer) }
@@ -107,7 +108,8 @@ fn put_version<S: Spelling>(
     }
 }
 
-/// Fills the claimed cell, and makes it a box.
+/// Fills the claimed cell, and makes it a box. The version before it may have the number
+/// `MOST_VERSIONS`.
 fn make_version<S: Spelling>(
     m: &mut Mutator<'_, Versions<S>>,
     number: u64,
@@ -116,7 +118,7 @@ fn make_version<S: Spelling>(
     fresh: usize,
 )
     requires may { MayMake m.old fresh latest tree }
-    requires small { number ≤ 6400001 }
+    requires small { number ≤ MOST_VERSIONS + 1 }
     ensures makes { Makes m.old m.new fresh number latest tree }
     ensures writes { WritesNothing m.old m.new }
 {

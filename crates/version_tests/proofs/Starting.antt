@@ -3,6 +3,7 @@ use Rattle.std.proofs.Common.{◌≡◌, ◌≤◌, ℕ, true, List, [], ◌∷�
 use Rattle.std.proofs.Common.{arith}
 use Rattle.cell_words.specs.declared.fields.Field.{Field}
 use Rattle.cell_words.specs.Term.{IsFive}
+use Rattle.run_limits.specs.declared.TheConstants.{MOST_CLIENTS}
 use Rattle.core_machine.specs.declared.events.Event.TheVariants as event
 use Rattle.core_machine.specs.declared.events.Found.{Found}
 use Rattle.doc_tree.specs.Tree.{empty}
@@ -17,7 +18,7 @@ use Rattle.held_places.proofs.Going.{many_cells}
 use Rattle.version_tests.specs.Grows.{IsNew, IsOf, Works}
 
 pub opens : (cells mutators keep : ℕ) (rows : List (List Field)) → rows ≡ first_rows
-    → mutators ≤ 64 → 1 ≤ keep → keep ≤ 100
+    → mutators ≤ MOST_CLIENTS → 1 ≤ keep → keep ≤ 100
     → Opens opening_pass (HoldsVersions IsFive (λ t. empty))
     record { cells = cells; mutators = mutators; setting = keep; first = rows }
 opens cells mutators keep rows is some least most =

@@ -7,6 +7,7 @@ ghost use Rattle.version_tests.specs.Grows.{Grows, Works};
 use crate::bare::Store;
 use free_cells::Hints;
 use mutator_seat::{Mutator, Value};
+use run_limits::MOST_COMMANDS;
 use std::marker::Brand;
 use std::sync::Wait;
 use version_store::{CommitFault, Cut, HeldVersion, commit, current, older, tree, trim};
@@ -31,7 +32,7 @@ pub(crate) fn put<R: Wait>(
 ) -> Result<u64, CommitFault>
     requires inside { m.old.seat.me.presence.inside ≡ true }
     requires room { length m.old.seat.me.own.held + 129 ≤ m.old.seat.me.room }
-    requires few { length m.old.seat.me.pass.commits < 100000 }
+    requires few { length m.old.seat.me.pass.commits < MOST_COMMANDS }
     requires version { IsHeld m.old v }
     ensures grows { Grows 1 1 m.old m.new }
 {

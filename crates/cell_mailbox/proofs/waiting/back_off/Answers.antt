@@ -10,8 +10,8 @@ loop-piece-preserved c = (
   rests_calm _ c.args.m.now c.loop-piece.m c.answer-answered.new.self c.loop-piece.invariant.0
       c.answer-answered.ensures.calm,
   paces_on c.args.m.now c.loop-piece.m c.answer-answered.new.self c.loop-piece.invariant.1
-      (paces_answer c.loop-piece.m c.answer-answered.new.self c.answer-answered.result c.answer-answered.ensures.calm
-      c.answer-answered.ensures.status),
+      (paces_answer c.loop-piece.m c.answer-answered.new.self c.answer-answered.result
+      c.answer-answered.ensures.calm c.answer-answered.ensures.status),
 )
 
 pub returns : goal.returns

@@ -4,8 +4,8 @@ use Rattle.client_heap.proofs.walking.step.Goals as goal
 
 pub returns-clause-carries : goal.returns-clause-carries
 returns-clause-carries g c =
-    carries_left (g.M.ClientSeat.bound c.args.m.now) (g.M.ClientSeat.bound c.child-found.new.m) c.args.minor.now c.child-found.new.minor
-    c.child-found.ensures.leaves
+    carries_left (g.M.ClientSeat.bound c.args.m.now) (g.M.ClientSeat.bound c.child-found.new.m)
+    c.args.minor.now c.child-found.new.minor c.child-found.ensures.leaves
 
 pub returns-clause-pass : goal.returns-clause-pass
 returns-clause-pass g c = c.child-found.ensures.leaves.pass

@@ -1,5 +1,5 @@
-use Rattle.mail_rule.proofs.Chaining.{behind}
+use Rattle.mail_rule.proofs.Chaining.{after}
 use Rattle.mail_rule.proofs.theorems.items_follow.Goals as goal
 
 pub returns : goal.returns
-returns c = behind
+returns c = after

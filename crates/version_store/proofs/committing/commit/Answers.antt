@@ -1,4 +1,5 @@
 use Rattle.std.proofs.Common.{◌<◌, length, refl, sym, subst, arith}
+use Rattle.run_limits.specs.declared.TheConstants.{MOST_COMMANDS}
 use Rattle.mutator_seat.proofs.Calm.{kept_same}
 use Rattle.version_rule.specs.Pass.{Pass}
 use Rattle.held_places.proofs.Claiming.{claimed_goes, claimed_in, claimed_pass}
@@ -42,8 +43,8 @@ put_version-put-requires g c =
       root = claimed_record a b fresh got c.args.tree c.requires.root;
       spells = subst s.is_tree (sym (claimed_term a b fresh got c.args.tree c.requires.root))
           c.requires.spells;
-      few = subst (λ (p : Pass). length p.commits < 100000) (sym (claimed_pass a b fresh got))
-          c.requires.few;
+      few = subst (λ (p : Pass). length p.commits < MOST_COMMANDS)
+          (sym (claimed_pass a b fresh got)) c.requires.few;
     }
 
 pub cut-requires-clause-kept : goal.cut-requires-clause-kept

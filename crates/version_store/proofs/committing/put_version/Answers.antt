@@ -1,4 +1,5 @@
 use Rattle.std.proofs.Common.{◌<◌, [], inl, inr, length, refl, ◌∙◌, sym, subst}
+use Rattle.run_limits.specs.declared.TheConstants.{MOST_COMMANDS}
 use Rattle.version_rule.specs.Pass.{Pass}
 use Rattle.version_store.proofs.Putting.{behind_first, behind_last, behind_write, committed_is}
 use Rattle.version_store.proofs.Putting.{in_write, may_make, may_pick, may_publish, newer_first}
@@ -43,7 +44,7 @@ publish-requires-clause-rule g c =
     c.requires.inside c.requires.claimed c.requires.version c.latest-newest.ensures.latest
     c.latest-newest.ensures.coherent c.requires.root.known c.make_version.ensures.makes
     c.requires.spells
-    (subst (λ (p : Pass). length p.commits < 100000)
+    (subst (λ (p : Pass). length p.commits < MOST_COMMANDS)
     (sym (c.make_version.ensures.makes.pass ∙ c.latest-newest.ensures.latest.pass))
     c.requires.few)
 

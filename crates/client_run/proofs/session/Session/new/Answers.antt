@@ -1,5 +1,6 @@
 use Rattle.std.proofs.Common.{ℕ, ◌≤◌, ◌++◌, List, [], ◌∷◌, length, sym}
 use Rattle.std.proofs.Common.{◌∙◌, ap, refl, subst}
+use Rattle.run_limits.specs.declared.TheConstants.{MOST_CLIENTS}
 use Rattle.client_session.specs.declared.journal.Limits.{Limits}
 use Rattle.minor_heap.specs.declared.fields.MinorField.{MinorField}
 use Rattle.minor_heap.specs.Nursery.{Nursery}
@@ -24,7 +25,8 @@ returns c =
             ∙ ap (λ (rs : List (List MinorField)). rs ++ first_record ∷ []) empty)
             (c.in-Ok.ensures.made ∙ ap (λ (rs : List (List MinorField)). length rs) empty)
             c.new.result c.in_ok-promoter.promoter c.args.limits.minor c.args.limits.keep
-            (subst (λ (n : ℕ). (1 ≤ n) × (n ≤ 64)) (sym c.new.ensures.client) c.requires.client)
+            (subst (λ (n : ℕ). (1 ≤ n) × (n ≤ MOST_CLIENTS)) (sym c.new.ensures.client)
+            c.requires.client)
             c.new.ensures.step c.requires.minor
             (c.in-Ok.ensures.room ∙ room) c.in_ok-promoter.ensures.room
             begun _ refl c.in_ok-nursery.ensures.records;
