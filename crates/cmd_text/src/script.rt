@@ -12,15 +12,13 @@ use crate::line::read_line;
 use crate::recent_paths::{RecentPaths, paths_for};
 use crate::second::read_second_script;
 use doc_model::Command;
+use run_limits::MOST_COMMANDS;
 use std::alloc::Global;
 
-// So many commands at most get their room at once. A run has no more; the list grows where it has
-// to.
-const MOST_COMMANDS: usize = 100_000;
-
-/// As many as a script of this length may well have.
+/// As many as a script of this length may well have. No more than `MOST_COMMANDS` get their room at
+/// once, since a run has no more; the list grows where it has to.
 pub(crate) fn commands_for(bytes: &[u8]) -> usize {
-    (bytes.len() / 8).min(MOST_COMMANDS)
+    (bytes.len() / 8).min(MOST_COMMANDS as usize)
 }
 
 /// The commands of a script, or its first faulty line. The length has its bound so that the number

@@ -9,6 +9,9 @@ use Rattle.clap.specs.Words.{App, Rule, Text, new_app, new_rule, with_rule}
 use Rattle.clap.specs.Simple.{on_top}
 use Rattle.clap.specs.declared.builder.action.ArgAction.TheVariants.{Append, Set, SetTrue}
 use Rattle.clap.specs.declared.builder.value_parser.ValueParser.TheVariants.{Unsigned}
+use Rattle.cell_words.specs.declared.controls.TheConstants.{GREATEST_CYCLES}
+use Rattle.cell_words.specs.declared.controls.TheConstants.{GREATEST_POSITION}
+use Rattle.run_limits.specs.declared.TheConstants.{MOST_CLIENTS}
 
 -- a number after its name, in these ends
 abbrev pub option_rule : Text → ℕ → ℕ → Rule
@@ -54,11 +57,11 @@ with_rules app (rule ∷ rules) = with_rules (with_rule app rule) rules
 -- what a run may use, and how often the collector may go round
 abbrev pub room_rules : List Rule
 room_rules =
-    option_rule (codes "cells") 64 4_194_304
+    option_rule (codes "cells") 64 GREATEST_POSITION
     ∷ option_rule (codes "minor") 4_096 262_144
     ∷ option_rule (codes "keep") 1 100
     ∷ option_rule (codes "versions") 1 1_000_000
-    ∷ option_rule (codes "cycles") 0 4_000_000_000
+    ∷ option_rule (codes "cycles") 0 GREATEST_CYCLES
     ∷ []
 
 -- what is written, and which files are read
@@ -85,8 +88,8 @@ dump_app = with_rules (bare (codes "dump")) (names_rule (codes "file") ∷ [])
 -- which files are read
 abbrev pub mail_app : App
 mail_app = with_rules (bare (codes "mail")) (
-    option_rule (codes "cells") 64 4_194_304
-    ∷ option_rule (codes "cycles") 0 4_000_000_000
+    option_rule (codes "cells") 64 GREATEST_POSITION
+    ∷ option_rule (codes "cycles") 0 GREATEST_CYCLES
     ∷ names_rule (codes "file")
     ∷ [])
 
@@ -97,7 +100,7 @@ file_app subcommand = with_rules (bare subcommand) (name_rule (codes "file") ∷
 abbrev pub gen_app : App
 gen_app = with_rules (bare (codes "gen")) (
     number_rule (codes "start") 0 2_147_483_647
-    ∷ number_rule (codes "clients") 1 64
+    ∷ number_rule (codes "clients") 1 MOST_CLIENTS
     ∷ number_rule (codes "commands") 1 10_000
-    ∷ option_rule (codes "print") 1 64
+    ∷ option_rule (codes "print") 1 MOST_CLIENTS
     ∷ [])

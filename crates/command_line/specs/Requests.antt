@@ -13,6 +13,7 @@ use Rattle.std.specs.declared.alloc.Global.{Global}
 use Rattle.std.specs.Prelude.{bytes_eq, codes, cond, if◌then◌else◌, map, nat_le}
 use Rattle.std.specs.Prelude.{option_and_then}
 use Rattle.std.specs.Prelude.{option_map, unwrap_or}
+use Rattle.cell_words.specs.declared.controls.TheConstants.{GREATEST_CYCLES}
 use Rattle.clap.specs.Words.{App, Kinds, Row, Text, all_of, fault_of, first_of, matches_of}
 use Rattle.clap.specs.Words.{one_of}
 use Rattle.command_line.specs.Commands.{dump_app, file_app, gen_app, image_app, mail_app, run_app}
@@ -69,7 +70,7 @@ run_with history stats rows = record {
   minor = number_of (codes "minor") 8_192 rows;
   keep = number_of (codes "keep") 8 rows;
   versions = number_of (codes "versions") 1_000_000 rows;
-  cycles = number_of (codes "cycles") 4_000_000_000 rows;
+  cycles = number_of (codes "cycles") GREATEST_CYCLES rows;
   history = history;
   stats = stats;
   files = names_in (all_of (codes "file") rows);
@@ -85,7 +86,7 @@ run_found rows =
 abbrev pub mail_found : List Row → MailAsked
 mail_found rows = record {
   cells = number_of (codes "cells") 65_536 rows;
-  cycles = number_of (codes "cycles") 4_000_000_000 rows;
+  cycles = number_of (codes "cycles") GREATEST_CYCLES rows;
   files = names_in (all_of (codes "file") rows);
 }
 

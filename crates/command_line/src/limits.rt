@@ -1,4 +1,6 @@
 //! The least and the greatest that each number may be.
+use cell_words::{GREATEST_CYCLES, GREATEST_POSITION};
+use run_limits::MOST_CLIENTS;
 
 /// The ends of a range, which belong to it.
 #[derive(Clone, Copy)]
@@ -9,7 +11,7 @@ pub(crate) struct Limits {
 
 pub(crate) const CELLS: Limits = Limits {
     least: 64,
-    most: 4_194_304,
+    most: GREATEST_POSITION,
 };
 
 pub(crate) const MINOR: Limits = Limits {
@@ -29,7 +31,7 @@ pub(crate) const VERSIONS: Limits = Limits {
 
 pub(crate) const CYCLES: Limits = Limits {
     least: 0,
-    most: 4_000_000_000,
+    most: GREATEST_CYCLES,
 };
 
 pub(crate) const START: Limits = Limits {
@@ -37,7 +39,10 @@ pub(crate) const START: Limits = Limits {
     most: 2_147_483_647,
 };
 
-pub(crate) const CLIENTS: Limits = Limits { least: 1, most: 64 };
+pub(crate) const CLIENTS: Limits = Limits {
+    least: 1,
+    most: MOST_CLIENTS,
+};
 
 pub(crate) const COMMANDS: Limits = Limits {
     least: 1,

@@ -23,6 +23,7 @@ use crate::commands::{
 use crate::limits::{CELLS, CLIENTS, COMMANDS, CYCLES, KEEP, MINOR, START, VERSIONS};
 use crate::request::{GenWords, MailWords, Request, RunWords, WordsFault};
 use crate::values::{flag, matches_on, name, names, number, number_or};
+use cell_words::GREATEST_CYCLES;
 use clap::ArgMatches;
 use std::alloc::{AllocError, Global};
 
@@ -203,7 +204,7 @@ fn run_in<'a>(
         minor: number_or(matches, "minor", MINOR, 8_192),
         keep: number_or(matches, "keep", KEEP, 8),
         versions: number_or(matches, "versions", VERSIONS, 1_000_000),
-        cycles: number_or(matches, "cycles", CYCLES, 4_000_000_000),
+        cycles: number_or(matches, "cycles", CYCLES, GREATEST_CYCLES),
         history,
         stats,
         files,
@@ -274,7 +275,7 @@ fn mail_in<'a>(alloc: Global, matches: &ArgMatches<'a>) -> Result<MailWords<'a>,
     let files = names(alloc, matches, "file")?;
     Ok(MailWords {
         cells: number_or(matches, "cells", CELLS, 65_536),
-        cycles: number_or(matches, "cycles", CYCLES, 4_000_000_000),
+        cycles: number_or(matches, "cycles", CYCLES, GREATEST_CYCLES),
         files,
     })
 }

@@ -4,6 +4,7 @@ ghost use Rattle.std.specs.Prelude.{IsSortedByKey, length};
 ghost use Rattle.doc_model.specs.History.{IsLegal};
 ghost use Rattle.doc_model.specs.Merge.{IsMerge, entry_order};
 ghost use Rattle.doc_model.specs.Store.{opening};
+ghost use Rattle.run_limits.specs.declared.TheConstants.{MOST_COMMANDS};
 
 use crate::NoMemory;
 use crate::command::Entry;
@@ -52,7 +53,7 @@ pub fn is_legal(
     requires clients { (1 ≤ clients) × (clients ≤ 64) }
     requires keep { (1 ≤ keep) × (keep ≤ 100) }
     requires versions { (1 ≤ versions) × (versions ≤ 1_000_000) }
-    requires entries { length entries.now ≤ 100_000 }
+    requires entries { length entries.now ≤ MOST_COMMANDS }
     ensures { IfOk result (λ legal. IsTrue legal
         ↔ IsLegal (opening clients (record { keep = keep; versions = versions })) entries.now) }
 {

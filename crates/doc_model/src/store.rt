@@ -13,6 +13,7 @@ ghost use Rattle.doc_model.specs.LawfulStore.{IsLawfulStore, IsShallow, NotDeep}
 ghost use Rattle.doc_model.specs.Store.{IsClient, after, answer_for_in, answer_in, entry_of};
 ghost use Rattle.doc_model.specs.Store.{opening, account_of, shown, tree_at};
 ghost use Rattle.doc_model.specs.StoreView.{IsNext};
+ghost use Rattle.run_limits.specs.declared.TheConstants.{MOST_COMMANDS};
 
 use crate::NoMemory;
 use crate::answer::{
@@ -107,7 +108,7 @@ impl PlainStore {
         command: &Command,
     ) -> Result<Entry, NoMemory>
         requires client { IsClient self.old client }
-        requires more { (account_of self.old client).answered < 100_000 }
+        requires more { (account_of self.old client).answered < MOST_COMMANDS }
         ensures entry { IfOk result (λ entry. entry
             ≡ entry_of self.old client command.now (answer_in self.old client command.now)) }
         ensures next { OnOk result (self.new
@@ -128,7 +129,7 @@ impl PlainStore {
         command: Command,
     ) -> Result<Entry, NoMemory>
         requires client { IsClient self.old client }
-        requires more { (account_of self.old client).answered < 100_000 }
+        requires more { (account_of self.old client).answered < MOST_COMMANDS }
         ensures entry { IfOk result (λ entry. entry
             ≡ entry_of self.old client command (answer_in self.old client command)) }
         ensures next { OnOk result (self.new
@@ -153,7 +154,7 @@ impl PlainStore {
 
     // Takes the entry in, if its reply and place are those that it has to have.
     pub(crate) fn accept(&mut self, alloc: Global, entry: &Entry) -> Result<bool, NoMemory>
-        requires { All (λ m. m.answered < 100_000) self.old.accounts }
+        requires { All (λ m. m.answered < MOST_COMMANDS) self.old.accounts }
         ensures says { IfOk result (λ legal. IsTrue legal
             ↔ (IsClient self.old entry.now.client
             × Says (answer_for_in self.old entry.now) entry.now)) }
@@ -298,7 +299,7 @@ impl PlainStore {
     // Takes the answer in, and gives its reply back.
     fn enter(&mut self, client: u32, answer: Answer) -> Result<Reply, NoMemory>
         requires client { IsClient self.old client }
-        requires more { (account_of self.old client).answered < 100_000 }
+        requires more { (account_of self.old client).answered < MOST_COMMANDS }
         requires next { IsNext self.old answer.made }
         ensures reply { IfOk result (λ reply. reply ≡ answer.reply) }
         ensures next { OnOk result (self.new ≡ after self.old client answer) }

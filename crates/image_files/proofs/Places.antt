@@ -6,6 +6,7 @@ use Rattle.std.specs.Prelude.{IfSome, set, slice_get}
 use Rattle.std.proofs.lemmas.Bool.{cases_eq, eq-eqb, ne_eqb}
 use Rattle.std.proofs.lemmas.Option.{same_Some}
 use Rattle.std.proofs.lemmas.List.{get_or-set_other, get_or-set_same, length-set}
+use Rattle.cell_words.specs.declared.controls.TheConstants.{GREATEST_POSITION}
 use Rattle.image_files.specs.Contents.{least_after}
 use Rattle.image_files.specs.File.{FileView, IsFile, LineFits, one_later, place_of}
 use Rattle.image_files.specs.declared.line.CellLine.{CellLine}
@@ -146,6 +147,6 @@ place_within (l ∷ lines) c k is =
     ] is
 
 pub place_few : (f : FileView) (c k : ℕ) → IsFile f → place_of f.lines c ≡ Some k
-    → k < 4_194_304
+    → k < GREATEST_POSITION
 place_few f c k file is =
     omega (arith, place_within f.lines c k is, file.rises, file.in_size, file.few)

@@ -7,6 +7,7 @@ use Rattle.std.specs.Prelude.{IfOk, bytes_eq, codes, drop, is_some, take, ◌&&�
 use Rattle.std.proofs.lemmas.Bool.{and_parts, leb-true}
 use Rattle.std.proofs.lemmas.Option.{cond_some, same_Some}
 use Rattle.cell_words.specs.declared.colours.Colour.{Colour}
+use Rattle.cell_words.specs.declared.controls.TheConstants.{GREATEST_POSITION}
 use Rattle.cell_words.specs.declared.fields.Field.{Field}
 use Rattle.line_texts.specs.Cut.{next_rest_of, next_word_of, rest_of, word_of}
 use Rattle.line_texts.specs.Lines.{has_feed, is_end, is_missing, lines_left, lines_of}
@@ -202,22 +203,22 @@ file_read size lines whole (Err (error.Fault fault)) is same lists =
 file_read size lines whole (Err error.NoMemory) is same lists = tt
 
 sized_back : (read : Option ℕ) (size : ℕ) → sized read ≡ Some size
-    → (64 ≤ size) × (size ≤ 4_194_304)
+    → (64 ≤ size) × (size ≤ GREATEST_POSITION)
 sized_back None size is = absurd cc
 sized_back (Some n) size is =
-    let both = cond_some (leb 64 n && leb n 4_194_304) n size is in
-    let parts = and_parts (leb 64 n) (leb n 4_194_304) both.0 in (
+    let both = cond_some (leb 64 n && leb n GREATEST_POSITION) n size is in
+    let parts = and_parts (leb 64 n) (leb n GREATEST_POSITION) both.0 in (
       subst (λ k. 64 ≤ k) both.1 (leb-true 64 n parts.0),
-      subst (λ k. k ≤ 4_194_304) both.1 (leb-true n 4_194_304 parts.1),
+      subst (λ k. k ≤ GREATEST_POSITION) both.1 (leb-true n GREATEST_POSITION parts.1),
     )
 
 -- a head has as many cells as a heap may have
 pub head_sized : (line : List ℕ) (size : ℕ) → head_of line ≡ Some size
-    → (64 ≤ size) × (size ≤ 4_194_304)
+    → (64 ≤ size) × (size ≤ GREATEST_POSITION)
 head_sized line size is =
     elim (bytes_eq (take 8 line) (codes "image 1 "))
     as (λ b. cond b (sized (decimal_of 7 (drop 8 line))) None ≡ Some size
-    → (64 ≤ size) × (size ≤ 4_194_304)) [
+    → (64 ≤ size) × (size ≤ GREATEST_POSITION)) [
       | true ↦ λ h. sized_back (decimal_of 7 (drop 8 line)) size h
       | false ↦ λ h. absurd cc
     ] is

@@ -6,6 +6,7 @@ use Rattle.std.specs.Prelude.{slice_index_or, Option, Some, None, IfSome, if◌t
 use Rattle.std.proofs.Common.{refl, subst}
 use Rattle.cell_words.specs.declared.colours.Colour.{Colour}
 use Rattle.cell_words.specs.declared.colours.Colour.TheVariants as colour
+use Rattle.cell_words.specs.declared.controls.TheConstants.{GREATEST_POSITION}
 use Rattle.cell_words.specs.declared.fields.Field.{Field}
 use Rattle.cell_words.specs.declared.fields.Field.TheVariants as field
 use Rattle.core_machine.specs.InRange.{NamesBelow}
@@ -70,7 +71,7 @@ pub record LineFits (size : ℕ) (l : CellLine) : Type 0 where
 -- What holds of the lines that were read.
 pub record IsFile (f : FileView) : Type 0 where
   pub some : 0 < f.size
-  pub few : f.size ≤ 4_194_304
+  pub few : f.size ≤ GREATEST_POSITION
   pub least_is : f.least ≡ least_after f.lines
   pub in_size : f.least ≤ f.size
   pub rises : length f.lines ≤ f.least

@@ -8,6 +8,7 @@ use Rattle.std.specs.Prelude.{Option, Some, None, Result, Ok, Err, take, drop, n
 use Rattle.std.specs.Prelude.{codes, bytes_eq, if◌then◌else◌}
 use Rattle.cell_words.specs.declared.colours.Colour.{Colour}
 use Rattle.cell_words.specs.declared.colours.Colour.TheVariants as colour
+use Rattle.cell_words.specs.declared.controls.TheConstants.{GREATEST_POSITION}
 use Rattle.cell_words.specs.declared.fields.Field.{Field}
 use Rattle.cell_words.specs.declared.fields.Field.TheVariants as field
 use Rattle.line_texts.specs.Cut.{next_rest_of, next_word_of, rest_of, word_of}
@@ -22,7 +23,7 @@ use Rattle.image_files.specs.declared.line.Held.TheVariants as held
 -- how many cells a heap may have
 abbrev pub sized : Option ℕ → Option ℕ
 sized None = None
-sized (Some n) = if nat_le 64 n && nat_le n 4_194_304 then Some n else None
+sized (Some n) = if nat_le 64 n && nat_le n GREATEST_POSITION then Some n else None
 
 -- the number of cells in a head
 abbrev pub head_of : List ℕ → Option ℕ

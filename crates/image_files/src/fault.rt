@@ -9,7 +9,7 @@ use heap_census::{Flaw, NoMemory};
 /// faults stand in one line, the first of this list counts.
 #[derive(Clone, Copy, Debug, PartialEq, Eq)]
 pub enum ImageKind {
-    /// line 1 is no head with a number of cells from 64 to 4,194,304
+    /// line 1 is no head with a number of cells from 64 to `GREATEST_POSITION`
     NoHead,
     /// a line is missing, or comes after the end
     BadEnd,

@@ -2,6 +2,7 @@
 //!
 //! There is a place for each cell. A search among the lines would do with less memory, but a census
 //! keeps flags for each cell anyway.
+ghost use Rattle.cell_words.specs.declared.controls.TheConstants.{GREATEST_POSITION};
 ghost use Rattle.image_files.specs.File.{FileView, IsFile, LineFits, ShowsFile, file_fits};
 ghost use Rattle.image_files.specs.File.{line_for, line_number, place_of};
 ghost use Rattle.std.specs.Prelude.{IfOk, OnOk, [], length, ◌++◌, ◌+◌, ◌<◌, ◌≡◌, ◌≤◌, ◌∷◌};
@@ -38,7 +39,7 @@ impl ImageFile {
     /// Of so many cells none has a line yet.
     pub(crate) fn new(alloc: Global, size: u32) -> Result<ImageFile, NoMemory>
         requires some { 0 < size }
-        requires few { size ≤ 4_194_304 }
+        requires few { size ≤ GREATEST_POSITION }
         ensures size { IfOk result (λ file. file.size ≡ size) }
         ensures lines { IfOk result (λ file. file.lines ≡ []) }
         ensures file { IfOk result IsFile }
@@ -71,7 +72,7 @@ impl ImageFile {
     pub(crate) fn count(&self) -> u32
         requires { IsFile self.now }
         ensures count { result ≡ length self.now.lines }
-        ensures few { result ≤ 4_194_304 }
+        ensures few { result ≤ GREATEST_POSITION }
     {
         self.lines.len() as u32
     }

@@ -5,7 +5,7 @@ ghost use Rattle.line_texts.specs.Lines.{is_missing};
 ghost use Rattle.std.specs.Prelude.{Some, ◌≡◌};
 
 use crate::fault::ImageKind;
-use cell_words::{Colour, Field};
+use cell_words::{Colour, Field, GREATEST_POSITION};
 use line_texts::{first_word, is_missing, next_word, read_colour, read_decimal, read_field};
 
 /// A cell in use, as its line has it.
@@ -34,7 +34,7 @@ pub(crate) fn read_head(line: &[u8]) -> Option<u32>
 fn sized(cells: u64) -> Option<u32>
     ensures { result ≡ sized (Some cells) }
 {
-    if cells < 64 || cells > 4_194_304 {
+    if cells < 64 || cells > u64::from(GREATEST_POSITION) {
         return None;
     }
     Some(cells as u32)

@@ -1,4 +1,5 @@
 //! A whole heap file: its lines, and the census of the heap that they show.
+ghost use Rattle.cell_words.specs.declared.controls.TheConstants.{GREATEST_POSITION};
 ghost use Rattle.image_files.specs.Answers.{Lists, ListsFile, ReadsImage};
 ghost use Rattle.image_files.specs.Answers.{IsSafe};
 ghost use Rattle.image_files.specs.Contents.{contents_of, ended, lines_from, turn_of};
@@ -51,7 +52,7 @@ fn fault_at(line: u32, kind: ImageKind) -> ImageError
 // The lines after the head.
 fn read_lines(alloc: Global, size: u32, bytes: &[u8]) -> Result<ImageFile, ImageError>
     requires some { 0 < size }
-    requires few { size ≤ 4_194_304 }
+    requires few { size ≤ GREATEST_POSITION }
     ensures size { IfOk result (λ file. file.size ≡ size) }
     ensures lines { Lists result (lines_from size [] (lines_of bytes.now)) }
     ensures file { IfOk result IsFile }

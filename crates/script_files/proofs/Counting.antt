@@ -8,6 +8,7 @@ use Rattle.std.proofs.lemmas.List.Sums.{sum_by-cons}
 use Rattle.doc_model.specs.declared.command.Command.{Command}
 use Rattle.cmd_text.specs.Whole.{script_of}
 use Rattle.cmd_text.specs.declared.fault.ScriptFault.{ScriptFault}
+use Rattle.run_limits.specs.declared.TheConstants.{MOST_COMMANDS}
 use Rattle.script_files.specs.Made.{texts_from}
 use Rattle.script_files.specs.InTurn.{counted, in_front}
 use Rattle.script_files.specs.Scripts.{after_reading, script_in, scripts_from}
@@ -53,51 +54,51 @@ scripts_length file before (bytes ∷ contents) scripts is =
 -- commands that are not too many
 counted_few : (before : ℕ) (script commands : List Command)
     → counted before script ≡ Ok commands
-    → before + length commands ≤ 100000
+    → before + length commands ≤ MOST_COMMANDS
 counted_few before script commands =
-    elim (nat_lt 100000 (before + length script))
-    as (λ b. nat_lt 100000 (before + length script) ≡ b
+    elim (nat_lt MOST_COMMANDS (before + length script))
+    as (λ b. nat_lt MOST_COMMANDS (before + length script) ≡ b
     → (if b then Err (TooLarge 0) else Ok script) ≡ Ok commands
-    → before + length commands ≤ 100000) [
+    → before + length commands ≤ MOST_COMMANDS) [
       | true ↦ λ e is. absurd (cc)
       | false ↦ λ e is.
           let same : commands ≡ script = cc in
-          let few : before + length script ≤ 100000 =
-          ltb-false 100000 (before + length script) e in
-          subst (λ c. before + length c ≤ 100000) (sym same) few
+          let few : before + length script ≤ MOST_COMMANDS =
+          ltb-false MOST_COMMANDS (before + length script) e in
+          subst (λ c. before + length c ≤ MOST_COMMANDS) (sym same) few
     ] refl
 
 reading_few : (file before : ℕ) (script : Result (List Command) ScriptFault)
     (commands : List Command) → after_reading file before script ≡ Ok commands
-    → before + length commands ≤ 100000
+    → before + length commands ≤ MOST_COMMANDS
 reading_few file before (Ok script) commands is = counted_few before script commands is
 reading_few file before (Err fault) commands is = absurd (cc)
 
 script_few : (file before : ℕ) (bytes : List ℕ) (commands : List Command)
-    → script_in file before bytes ≡ Ok commands → before + length commands ≤ 100000
+    → script_in file before bytes ≡ Ok commands → before + length commands ≤ MOST_COMMANDS
 script_few file before bytes commands =
     elim (nat_lt 1048576 (length bytes)) as (λ b.
     (if b then Err (TooLarge file) else after_reading file before (script_of bytes)) ≡ Ok commands
-    → before + length commands ≤ 100000) [
+    → before + length commands ≤ MOST_COMMANDS) [
       | true ↦ λ is. absurd (cc)
       | false ↦ λ is. reading_few file before (script_of bytes) commands is
     ]
 
 -- all scripts have so many commands at most
 pub scripts_few : (file before : ℕ) (contents : List (List ℕ)) (scripts : List (List Command))
-    → before ≤ 100000 → scripts_from file before contents ≡ Ok scripts
-    → before + sum_by length scripts ≤ 100000
+    → before ≤ MOST_COMMANDS → scripts_from file before contents ≡ Ok scripts
+    → before + sum_by length scripts ≤ MOST_COMMANDS
 scripts_few file before [] scripts few is =
     let same : scripts ≡ [] = cc in
-    subst (λ s. before + sum_by length s ≤ 100000) (sym same) (omega arith)
+    subst (λ s. before + sum_by length s ≤ MOST_COMMANDS) (sym same) (omega arith)
 scripts_few file before (bytes ∷ contents) scripts few is =
     let parts = all_parts (script_in file before bytes)
     (λ commands. scripts_from (file + 1) (before + length commands) contents) scripts is in
-    let first : before + length parts.0 ≤ 100000 =
+    let first : before + length parts.0 ≤ MOST_COMMANDS =
     script_few file before bytes parts.0 parts.2 in
-    let rest : before + length parts.0 + sum_by length parts.1 ≤ 100000 =
+    let rest : before + length parts.0 + sum_by length parts.1 ≤ MOST_COMMANDS =
     scripts_few (file + 1) (before + length parts.0) contents parts.1 first parts.3 in
-    subst (λ s. before + sum_by length s ≤ 100000) (sym parts.4)
+    subst (λ s. before + sum_by length s ≤ MOST_COMMANDS) (sym parts.4)
     (omega (arith, rest, sum_by-cons length parts.0 parts.1))
 
 -- a text for each client

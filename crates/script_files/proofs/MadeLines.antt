@@ -38,6 +38,7 @@ use Rattle.cmd_text.specs.Whole.{script_of}
 use Rattle.cmd_text.specs.declared.form.Form.TheVariants.{Plain}
 use Rattle.cmd_text.proofs.Versions.{first_is_whole}
 use Rattle.line_texts.specs.Lines.{lines_of}
+use Rattle.run_limits.specs.declared.TheConstants.{MOST_COMMANDS}
 use Rattle.script_files.specs.Draws.{drawn_at, opening_of, state_after}
 use Rattle.script_files.specs.Generated.{copy_text_of, generated_of}
 use Rattle.script_files.specs.Generated.{line_text_of, lines_from, path_text_of}
@@ -567,21 +568,21 @@ lines_made client state number (suc more) few =
 
 -- the text of a client is a script within the size of a file
 script_whole : (start client commands before : ℕ) → client ≤ 64 → commands ≤ 10000
-    → before + commands ≤ 100000
+    → before + commands ≤ MOST_COMMANDS
     → (script : List Command) × (length script ≡ commands)
     × (script_in client before (generated_of start client commands) ≡ Ok script)
 script_whole start client commands before few short all =
     let text = generated_of start client commands in
     let lines = lines_made client (opening_of start client) 1 commands few in
     let size : length text ≤ 1048576 = omega (arith, lines.3) in
-    let count : before + length lines.0 ≤ 100000 = omega (arith, lines.2) in (
+    let count : before + length lines.0 ≤ MOST_COMMANDS = omega (arith, lines.2) in (
       lines.0,
       lines.2,
       ap (λ b. if b then Err (TooLarge client) else after_reading client before (script_of text))
           (le-ltb 1048576 (length text) size)
           ∙ ap (after_reading client before) (first_is_whole text lines.0 lines.1)
           ∙ ap (λ b. if b then Err (TooLarge 0) else Ok lines.0)
-          (le-ltb 100000 (before + length lines.0) count),
+          (le-ltb MOST_COMMANDS (before + length lines.0) count),
     )
 
 front_made : (client before : ℕ) (text : List ℕ) (texts : List (List ℕ))
@@ -595,7 +596,7 @@ front_made client before text texts script scripts first others =
 
 texts_made : (start commands client more before : ℕ) → client + more ≤ 65
     → commands ≤ 10000
-    → before + more * commands ≤ 100000
+    → before + more * commands ≤ MOST_COMMANDS
     → (scripts : List (List Command))
     × (scripts_from client before (texts_from start commands client more) ≡ Ok scripts)
 texts_made start commands client zero before few short all = ([], refl)
@@ -612,7 +613,7 @@ texts_made start commands client (suc more) before few short all =
     )
 
 pub made_scripts : (start clients commands : ℕ) → start ≤ 2147483647 → clients ≤ 64
-    → commands ≤ 10000 → clients * commands ≤ 100000
+    → commands ≤ 10000 → clients * commands ≤ MOST_COMMANDS
     → (scripts : List (List Command))
     × (scripts_from 1 0 (texts_from start commands 1 clients) ≡ Ok scripts)
 made_scripts start clients commands low few short all =

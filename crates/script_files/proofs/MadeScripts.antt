@@ -7,6 +7,7 @@ use Rattle.std.proofs.lemmas.List.{map-append}
 use Rattle.std.specs.Prelude.{Vec}
 use Rattle.std.specs.declared.alloc.Global.{Global}
 use Rattle.doc_model.specs.declared.command.Command.{Command}
+use Rattle.run_limits.specs.declared.TheConstants.{MOST_COMMANDS}
 use Rattle.script_files.specs.Generated.{generated_of}
 use Rattle.script_files.proofs.Files.{first_decided, next_decided, none_decided}
 use Rattle.script_files.proofs.MadeLines.{made_scripts}
@@ -103,7 +104,7 @@ made_all start clients commands scripts old none is =
 
 -- no text of the generator is refused
 never : (start clients commands : ℕ) (fault : Fault) → start ≤ 2147483647 → clients ≤ 64
-    → commands ≤ 10000 → clients * commands ≤ 100000
+    → commands ≤ 10000 → clients * commands ≤ MOST_COMMANDS
     → AreScriptsFrom 1 0 (map Some (texts_from start commands 1 clients)) (Err fault) → ⊥
 never start clients commands fault low few short all are =
     let made = made_scripts start clients commands low few short all in
@@ -114,7 +115,7 @@ never start clients commands fault low few short all are =
 -- memory ran out
 pub made_not : (start clients commands : ℕ) (fault : Fault) (old new : List (List Command))
     → start ≤ 2147483647 → clients ≤ 64 → commands ≤ 10000
-    → clients * commands ≤ 100000
+    → clients * commands ≤ MOST_COMMANDS
     → ((file : ℕ) → fault ≡ ReadFault file → ⊥)
     → DecidesFrom 1 0 (map Some (texts_from start commands 1 clients)) (Err fault) old new
     → DecidesMade start clients commands (Err fault)

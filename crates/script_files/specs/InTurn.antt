@@ -5,6 +5,7 @@
 -- Source: this project's own.
 use Rattle.std.specs.Prelude.{◌≡◌, ℕ, ◌+◌, ◌-◌, ◌≤◌, List, [], ◌∷◌, ◌++◌, length, take, map}
 use Rattle.std.specs.Prelude.{nat_lt, Option, IfSome, Result, Ok, Err, if◌then◌else◌}
+use Rattle.run_limits.specs.declared.TheConstants.{MOST_COMMANDS}
 use Rattle.script_files.specs.Files.{Agree, opened}
 use Rattle.script_files.specs.Sorts.{Grammar, Refused, sort_of}
 use Rattle.script_files.specs.declared.fault.Fault.{Fault}
@@ -14,10 +15,6 @@ use Rattle.script_files.specs.declared.fault.Fault.TheVariants.{ReadFault, TooLa
 abbrev pub largest_file : ℕ
 largest_file = 1048576
 
--- how many commands all scripts have at most
-abbrev pub most_commands : ℕ
-most_commands = 100000
-
 -- How a grammar reads the bytes of a file that are not too many: by the number of the file, and by
 -- how many items stand in the files before it.
 abbrev pub Parse : Type 0 → Type 0
@@ -26,7 +23,7 @@ Parse A = ℕ → ℕ → List ℕ → Result (List A) Fault
 -- items that come after so many others
 abbrev pub counted : {A : Type 0} → ℕ → List A → Result (List A) Fault
 counted before items =
-    if nat_lt most_commands (before + length items) then Err (TooLarge 0) else Ok items
+    if nat_lt MOST_COMMANDS (before + length items) then Err (TooLarge 0) else Ok items
 
 -- what this file gives, if it is not too long
 abbrev pub within_size : {A : Type 0} → ℕ → (List ℕ → Result A Fault) → List ℕ → Result A Fault

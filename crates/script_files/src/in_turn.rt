@@ -11,6 +11,7 @@ ghost use Rattle.script_files.specs.Files.{OpensInTurn, opened};
 ghost use Rattle.script_files.specs.InTurn.{AddsFile, AddsList, GathersFrom, Parse, StopsIn};
 ghost use Rattle.script_files.specs.InTurn.{list_in};
 ghost use Rattle.script_files.specs.Sorts.{Grammar};
+ghost use Rattle.run_limits.specs.declared.TheConstants.{MOST_COMMANDS};
 
 use crate::fault::Fault;
 use outside::{OutFault, READ_LIMIT, Shelf, read_file};
@@ -18,9 +19,6 @@ use std::alloc::Global;
 
 /// How many bytes a file has at most.
 pub(crate) const LARGEST_FILE: usize = 1_048_576;
-
-/// How many items all files have at most: commands of scripts, or values that are sent.
-pub(crate) const MOST_COMMANDS: usize = 100_000;
 
 /// What is gathered from files that are read in turn: a list of each, and a note of its bytes.
 pub(crate) trait Gathering {
@@ -50,11 +48,11 @@ pub(crate) trait Gathering {
     /// Adds the list that the bytes of this file are, after so many items of the files before it,
     /// and tells how many it has.
     fn add(&mut self, alloc: Global, bytes: &[u8], file: u32, before: usize) -> Result<usize, Fault>
-        requires before { before ≤ 100_000 }
+        requires before { before ≤ MOST_COMMANDS }
         requires fits { fits self.old }
         ensures added { AddsList grammar (list_in parse file before bytes.now) (note bytes.now)
             result (lists self.old) (lists self.new) (notes self.old) (notes self.new) }
-        ensures few { IfOk result (λ count. before + count ≤ 100_000) }
+        ensures few { IfOk result (λ count. before + count ≤ MOST_COMMANDS) }
         ensures fits { fits self.new };
 }
 
@@ -70,7 +68,7 @@ pub(crate) fn gather<H: Shelf, G: Gathering>(
     gathered: &mut G,
 ) -> Result<(), Fault>
     requires few { file + length names.now ≤ 65 }
-    requires before { before ≤ 100_000 }
+    requires before { before ≤ MOST_COMMANDS }
     requires all { sum_by length (G.lists gathered.old) ≡ before }
     requires fits { G.fits gathered.old }
     ensures lists { GathersFrom G.grammar G.parse G.note file before
@@ -80,7 +78,7 @@ pub(crate) fn gather<H: Shelf, G: Gathering>(
     ensures fits { G.fits gathered.new }
     ensures count { OnOk result (length (G.lists gathered.new)
         ≡ length (G.lists gathered.old) + length names.now) }
-    ensures total { OnOk result (sum_by length (G.lists gathered.new) ≤ 100_000) }
+    ensures total { OnOk result (sum_by length (G.lists gathered.new) ≤ MOST_COMMANDS) }
     ensures read { (place : ℕ) → IsErrOf result (Fault.ReadFault place) →
         Rose (H.faults shelf.old) (H.faults shelf.new) }
     ensures read_file { (place : ℕ) → IsErrOf result (Fault.ReadFault place) → (more : ℕ)
@@ -118,12 +116,12 @@ fn gather_file<H: Shelf, G: Gathering>(
     shelf: &mut H,
     gathered: &mut G,
 ) -> Result<usize, Fault>
-    requires before { before ≤ 100_000 }
+    requires before { before ≤ MOST_COMMANDS }
     requires fits { G.fits gathered.old }
     ensures added { AddsFile G.grammar G.parse G.note file before (H.holds shelf.old name.now)
         result (G.lists gathered.old) (G.lists gathered.new)
         (G.notes gathered.old) (G.notes gathered.new) }
-    ensures few { IfOk result (λ count. before + count ≤ 100_000) }
+    ensures few { IfOk result (λ count. before + count ≤ MOST_COMMANDS) }
     ensures fits { G.fits gathered.new }
     ensures held { H.holds shelf.new ≡ H.holds shelf.old }
     ensures read { (place : ℕ) → IsErrOf result (Fault.ReadFault place) →

@@ -13,10 +13,11 @@ ghost use Rattle.script_files.specs.Mail.{parse_mail, senders_read, values_of};
 ghost use Rattle.script_files.specs.Sorts.{OfMail};
 
 use crate::fault::Fault;
-use crate::in_turn::{Gathering, LARGEST_FILE, MOST_COMMANDS, gather};
+use crate::in_turn::{Gathering, LARGEST_FILE, gather};
 use crate::mail_fault::{MailError, MailFault};
 use crate::mail_script::read_mail;
 use outside::{READ_LIMIT, Shelf};
+use run_limits::MOST_COMMANDS;
 use std::alloc::Global;
 
 // How many senders there are at most.
@@ -70,7 +71,7 @@ pub fn mail_in_files<H: Shelf>(
     ensures count { IfOk result (λ scripts. length scripts.items ≡ length names.now) }
     ensures few { IfOk result (λ scripts. length scripts.items ≤ 63) }
     ensures total { IfOk result (λ scripts.
-        sum_by (λ script. length script.items) scripts.items ≤ 100_000) }
+        sum_by (λ script. length script.items) scripts.items ≤ MOST_COMMANDS) }
     ensures small { IfOk result (λ scripts.
         All (λ script. All (λ value. value < 2 ^ 32) script.items) scripts.items) }
     ensures read { (file : ℕ) → IsErrOf result (Fault.ReadFault file) →
@@ -108,7 +109,7 @@ fn mail_in_turn<H: Shelf>(
         (map (H.holds shelf.old) (map (λ name. name.now) names.now)) result }
     ensures count { IfOk result (λ scripts. length scripts.items ≡ length names.now) }
     ensures total { IfOk result (λ scripts.
-        sum_by (λ script. length script.items) scripts.items ≤ 100_000) }
+        sum_by (λ script. length script.items) scripts.items ≤ MOST_COMMANDS) }
     ensures small { IfOk result (λ scripts.
         All (λ script. All (λ value. value < 2 ^ 32) script.items) scripts.items) }
     ensures read { (file : ℕ) → IsErrOf result (Fault.ReadFault file) →
@@ -137,9 +138,9 @@ fn mail_in_turn<H: Shelf>(
 
 // The values that the bytes of this file send, after so many values of the files before it.
 fn values_in_bytes(alloc: Global, bytes: &[u8], file: u32, before: usize) -> Result<Vec<u64>, Fault>
-    requires before { before ≤ 100_000 }
+    requires before { before ≤ MOST_COMMANDS }
     ensures values { DecidesValues result (mail_in file before bytes.now) }
-    ensures few { IfOk result (λ values. before + length values.items ≤ 100_000) }
+    ensures few { IfOk result (λ values. before + length values.items ≤ MOST_COMMANDS) }
     ensures small { IfOk result (λ values. All (λ value. value < 2 ^ 32) values.items) }
 {
     if bytes.len() > LARGEST_FILE {
@@ -161,13 +162,13 @@ fn fault_in(file: u32, fault: MailFault) -> Fault
 
 // The values, if with those before them they are not too many.
 fn values_within(values: Vec<u64>, before: usize) -> Result<Vec<u64>, Fault>
-    requires before { before ≤ 100_000 }
+    requires before { before ≤ MOST_COMMANDS }
     requires small { All (λ value. value < 2 ^ 32) values.items }
     ensures counted { DecidesValues result (counted before values.items) }
-    ensures few { IfOk result (λ values. before + length values.items ≤ 100_000) }
+    ensures few { IfOk result (λ values. before + length values.items ≤ MOST_COMMANDS) }
     ensures small { IfOk result (λ values. All (λ value. value < 2 ^ 32) values.items) }
 {
-    if values.len() > MOST_COMMANDS - before {
+    if values.len() > MOST_COMMANDS as usize - before {
         return Err(Fault::TooLarge { file: 0 });
     }
     Ok(values)

@@ -16,10 +16,11 @@ ghost use Rattle.script_files.specs.Scripts.{StopsBehind, parse_script, script_i
 ghost use Rattle.script_files.specs.Sorts.{OfScripts};
 
 use crate::fault::Fault;
-use crate::in_turn::{Gathering, LARGEST_FILE, MOST_COMMANDS, gather};
+use crate::in_turn::{Gathering, LARGEST_FILE, gather};
 use cmd_text::{Form, ScriptError, ScriptFault, read_script, script_form};
 use doc_model::{Command, NoMemory};
 use outside::{READ_LIMIT, Shelf};
+use run_limits::MOST_COMMANDS;
 use std::alloc::Global;
 
 // How many files there are at most.
@@ -95,7 +96,7 @@ pub fn scripts_in_files<H: Shelf>(
     ensures count { IfOk result (λ scripts. length scripts.commands.items ≡ length names.now) }
     ensures few { IfOk result (λ scripts. length scripts.commands.items ≤ 64) }
     ensures total { IfOk result (λ scripts.
-        sum_by (λ script. length script.items) scripts.commands.items ≤ 100_000) }
+        sum_by (λ script. length script.items) scripts.commands.items ≤ MOST_COMMANDS) }
     ensures read { (file : ℕ) → IsErrOf result (Fault.ReadFault file) →
         Rose (H.faults shelf.old) (H.faults shelf.new) }
     ensures read_file { (file : ℕ) → IsErrOf result (Fault.ReadFault file) →
@@ -127,7 +128,7 @@ fn scripts_in_turn<H: Shelf>(alloc: Global, names: &[&str], shelf: &mut H) -> Re
         (map (H.holds shelf.old) (map (λ name. name.now) names.now)) result }
     ensures count { IfOk result (λ scripts. length scripts.commands.items ≡ length names.now) }
     ensures total { IfOk result (λ scripts.
-        sum_by (λ script. length script.items) scripts.commands.items ≤ 100_000) }
+        sum_by (λ script. length script.items) scripts.commands.items ≤ MOST_COMMANDS) }
     ensures read { (file : ℕ) → IsErrOf result (Fault.ReadFault file) →
         Rose (H.faults shelf.old) (H.faults shelf.new) }
     ensures read_file { (file : ℕ) → IsErrOf result (Fault.ReadFault file) →
@@ -161,9 +162,9 @@ pub(crate) fn script_in_bytes(
     file: u32,
     before: usize,
 ) -> Result<Vec<Command>, Fault>
-    requires before { before ≤ 100_000 }
+    requires before { before ≤ MOST_COMMANDS }
     ensures script { Decides result (script_in file before bytes.now) }
-    ensures few { IfOk result (λ script. before + length script.items ≤ 100_000) }
+    ensures few { IfOk result (λ script. before + length script.items ≤ MOST_COMMANDS) }
 {
     if bytes.len() > LARGEST_FILE {
         return Err(Fault::TooLarge { file });
@@ -184,11 +185,11 @@ fn fault_in(file: u32, fault: ScriptFault) -> Fault
 
 // The commands, if with those before them they are not too many.
 fn within_count(commands: Vec<Command>, before: usize) -> Result<Vec<Command>, Fault>
-    requires before { before ≤ 100_000 }
+    requires before { before ≤ MOST_COMMANDS }
     ensures counted { Decides result (counted before commands.items) }
-    ensures few { IfOk result (λ script. before + length script.items ≤ 100_000) }
+    ensures few { IfOk result (λ script. before + length script.items ≤ MOST_COMMANDS) }
 {
-    if commands.len() > MOST_COMMANDS - before {
+    if commands.len() > MOST_COMMANDS as usize - before {
         return Err(Fault::TooLarge { file: 0 });
     }
     Ok(commands)

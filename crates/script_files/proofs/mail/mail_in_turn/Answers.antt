@@ -1,6 +1,7 @@
 use Rattle.std.proofs.Common.{ℕ, ap, arith, map}
 use Rattle.std.specs.Prelude.{Vec}
 use Rattle.std.specs.declared.alloc.Global.{Global}
+use Rattle.run_limits.specs.declared.TheConstants.{MOST_COMMANDS}
 use Rattle.script_files.proofs.Files.{one_refused, told_names}
 use Rattle.script_files.proofs.Gathered.{all_gathered, count_of, total_of}
 use Rattle.script_files.specs.Mail.{parse_mail, values_of}
@@ -22,7 +23,7 @@ returns-in-Ok-clause-count g c =
 
 pub returns-in-Ok-clause-total : goal.returns-in-Ok-clause-total
 returns-in-Ok-clause-total g c =
-    total_of (λ (script : Vec ℕ Global). script.items) c.gather.new.gathered.items 100000
+    total_of (λ (script : Vec ℕ Global). script.items) c.gather.new.gathered.items MOST_COMMANDS
     c.in-Ok.ensures.total
 
 pub returns-in-Err-clause-scripts : goal.returns-in-Err-clause-scripts

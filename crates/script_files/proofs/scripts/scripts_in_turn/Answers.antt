@@ -3,6 +3,7 @@ use Rattle.cmd_text.specs.Form.{form_of}
 use Rattle.std.specs.Prelude.{Vec}
 use Rattle.std.specs.declared.alloc.Global.{Global}
 use Rattle.doc_model.specs.declared.command.Command.{Command}
+use Rattle.run_limits.specs.declared.TheConstants.{MOST_COMMANDS}
 use Rattle.script_files.proofs.Files.{one_refused, told_names}
 use Rattle.script_files.proofs.Gathered.{all_gathered, count_of, total_of}
 use Rattle.doc_model.specs.Scripts.{lists_of}
@@ -26,7 +27,7 @@ returns-in-Ok-clause-count g c =
 pub returns-in-Ok-clause-total : goal.returns-in-Ok-clause-total
 returns-in-Ok-clause-total g c =
     total_of (λ (script : Vec Command Global). script.items) c.gather.new.gathered.commands.items
-    100000 c.in-Ok.ensures.total
+    MOST_COMMANDS c.in-Ok.ensures.total
 
 pub returns-in-Err-clause-scripts : goal.returns-in-Err-clause-scripts
 returns-in-Err-clause-scripts g c =
