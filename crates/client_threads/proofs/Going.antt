@@ -4,6 +4,7 @@ use Rattle.std.proofs.Common.{◌++◌, length, take, get_or}
 use Rattle.std.proofs.Common.{refl, sym, ◌∙◌, ap, subst, arith}
 use Rattle.std.proofs.Math.Seq.{take-length, take-suc}
 use Rattle.std.proofs.lemmas.List.{append-nil, append_assoc, length-map, length-take-le, map-append}
+use Rattle.run_limits.specs.declared.TheConstants.{MOST_COMMANDS}
 use Rattle.client_run.specs.Answers.{Answered, IsSameClient}
 use Rattle.client_run.specs.Own.{MayAnswer}
 use Rattle.client_run.specs.declared.session.Session.{Session}
@@ -147,8 +148,8 @@ module _ (script : List Command) (s : Session) (a : Bound Pass) (i : ℕ) (t : S
   }
 
   -- the log has room for one more
-  pub went_few : i < length script → length script ≤ 100_000 → s.journal.log.entries ≡ []
-      → length t.journal.log.entries < 100_000
+  pub went_few : i < length script → length script ≤ MOST_COMMANDS → s.journal.log.entries ≡ []
+      → length t.journal.log.entries < MOST_COMMANDS
   went_few there short none =
       let many : length t.journal.log.entries ≡ i =
       sym (length-map t.journal.log.entries (λ (e : Entry). e.command))

@@ -1,6 +1,7 @@
 -- The opening of a store's heap.
 use Rattle.std.proofs.Common.{◌≡◌, ◌≤◌, ℕ, List, refl, sym, subst}
 use Rattle.cell_words.specs.declared.fields.Field.{Field}
+use Rattle.run_limits.specs.declared.TheConstants.{MOST_CLIENTS}
 use Rattle.doc_records.specs.Trees.{IsTreeNode, tree_of}
 use Rattle.client_history.specs.Spelled.{bare_is_empty, bare_is_node}
 use Rattle.heap_table.specs.Opening.{Opens}
@@ -10,7 +11,7 @@ use Rattle.version_rule.specs.Versions.{HoldsVersions}
 use Rattle.version_rule.proofs.Openings.{firsts, opened}
 
 pub opens : (cells mutators keep : ℕ) (rows : List (List Field)) → rows ≡ first_rows
-    → mutators ≤ 64 → 1 ≤ keep → keep ≤ 100
+    → mutators ≤ MOST_CLIENTS → 1 ≤ keep → keep ≤ 100
     → Opens opening_pass (HoldsVersions IsTreeNode tree_of)
     record { cells = cells; mutators = mutators; setting = keep; first = rows }
 opens cells mutators keep rows is fewer least most =

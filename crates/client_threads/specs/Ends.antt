@@ -17,8 +17,8 @@ use Rattle.version_rule.specs.Tied.{Tied}
 -- The log with this index and what the mutator with this index left: its seat was joined, the log
 -- is tied to its pass, and its trail shows what the log tells. The heap has so many cells, and the
 -- mutator so many places.
-pub record IsTiedTo (l : Limits) (cells room : ℕ) (logs : List ClientLog) (joined : List (Place Pass))
-    (i : ℕ) : Type 0 where
+pub record IsTiedTo (l : Limits) (cells room : ℕ) (logs : List ClientLog)
+    (joined : List (Place Pass)) (i : ℕ) : Type 0 where
   pub log : ClientLog
   pub log_at : get_elem? logs i ≡ some log
   pub share : Share Pass

@@ -15,6 +15,7 @@ use doc_model::Command;
 use free_cells::Hints;
 use mutator_seat::Mutator;
 use outside::Gate;
+use run_limits::MOST_COMMANDS;
 use std::alloc::Global;
 use std::sync::Wait;
 use std::thread;
@@ -58,7 +59,7 @@ fn answer_next<'h, R: Wait>(
     command: &Command,
 ) -> bool
     requires may { MayAnswer session.old m.old }
-    requires few { length session.old.journal.log.entries < 100000 }
+    requires few { length session.old.journal.log.entries < MOST_COMMANDS }
     ensures went { Went (answered result command.now) session.old m.old session.new m.new }
 {
     match session.answer(alloc, rt, hints, m, command) {
@@ -79,7 +80,7 @@ fn take_turn<'h, R: Wait, G: Gate>(
     command: &Command,
 ) -> bool
     requires may { MayAnswer session.old m.old }
-    requires few { length session.old.journal.log.entries < 100000 }
+    requires few { length session.old.journal.log.entries < MOST_COMMANDS }
     ensures went { Went (answered result command.now) session.old m.old session.new m.new }
 {
     let client = session.log().client();
@@ -113,7 +114,7 @@ pub(crate) fn answer_all<'h, R: Wait, G: Gate>(
 ) -> bool
     requires may { MayAnswer session.old m.old }
     requires none { session.old.journal.log.entries ≡ [] }
-    requires short { length script.now ≤ 100000 }
+    requires short { length script.now ≤ MOST_COMMANDS }
     ensures answers { Answers result script.now session.old m.old session.new m.new }
 {
     reserve_entries(session, script.len());

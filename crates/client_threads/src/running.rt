@@ -13,6 +13,7 @@ use free_cells::FreeQueue;
 use heap_table::CellHeap;
 use mutator_threads::Worker;
 use outside::Gate;
+use run_limits::MOST_COMMANDS;
 use std::alloc::Global;
 use std::sync::Wait;
 
@@ -30,7 +31,7 @@ pub fn run_client<'x, R: Wait, G: Gate>(
     client: Worker<Documents, Client>,
 ) -> Worker<Documents, Client>
     requires keep { heap.now.shape.setting ≡ limits.keep }
-    requires short { length (script_of scripts.now number) ≤ 100_000 }
+    requires short { length (script_of scripts.now number) ≤ MOST_COMMANDS }
     requires ready { IsReady heap.now queue.now limits number client }
     ensures done { IsDone heap.now limits scripts.now number result }
 {

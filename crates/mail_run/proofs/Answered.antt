@@ -30,9 +30,9 @@ pub record IsSend (lines : List ℕ) (answers : List (Option ℕ)) (sent : Sent)
   pub value_at : get_elem? lines place ≡ some sent.value
   pub position_at : get_elem? answers place ≡ some (Some sent.position)
 
-one_behind : (v : ℕ) (vs : List ℕ) (a : Option ℕ) (rest : List (Option ℕ)) (sent : Sent)
+one_after : (v : ℕ) (vs : List ℕ) (a : Option ℕ) (rest : List (Option ℕ)) (sent : Sent)
     → IsSend vs rest sent → IsSend (v ∷ vs) (a ∷ rest) sent
-one_behind v vs a rest sent is = record {
+one_after v vs a rest sent is = record {
   place = suc is.place;
   value_at = is.value_at;
   position_at = is.position_at;
@@ -49,9 +49,9 @@ send_at (v ∷ vs) (Some p ∷ rest) zero sent lt is = record {
   position_at = ap (λ (s : Sent). some (Some s.position)) is;
 }
 send_at (v ∷ vs) (Some p ∷ rest) (suc k) sent lt is =
-    one_behind v vs (Some p) rest sent (send_at vs rest k sent (omega (arith, lt)) is)
+    one_after v vs (Some p) rest sent (send_at vs rest k sent (omega (arith, lt)) is)
 send_at (v ∷ vs) (None ∷ rest) k sent lt is =
-    one_behind v vs None rest sent (send_at vs rest k sent lt is)
+    one_after v vs None rest sent (send_at vs rest k sent lt is)
 
 pub is_send : (lines : List ℕ) (answers : List (Option ℕ)) (sent : Sent)
     → Contains (sends_in lines answers) sent → IsSend lines answers sent

@@ -20,9 +20,9 @@ module _ (who one first : ℕ) (others : List ℕ) where
       else positions_of who (first + 1) others) (ne_eqb one who other)
 
 -- A mutator without positions among these items has none after the first either.
-none_behind : (who one first : ℕ) (others : List ℕ)
+none_after : (who one first : ℕ) (others : List ℕ)
     → positions_of who first (one ∷ others) ≡ [] → positions_of who (first + 1) others ≡ []
-none_behind who one first others none = elim (cases_eq one who) [
+none_after who one first others none = elim (cases_eq one who) [
   | inl same ↦ absurd (
       let is : first ∷ positions_of who (first + 1) others ≡ [] =
       sym (at_first who one first others same) ∙ none in
@@ -43,7 +43,7 @@ one_took last first (one ∷ takers) few none = elim (cases_eq one last) [
       ∙ ap (λ (ns : List ℕ). first ∷ ns)
       (one_took last (first + 1) takers
       (All-tail (λ (number : ℕ). number < last + 1) one takers few)
-      (λ i lt. none_behind i one first takers (none i lt)))
+      (λ i lt. none_after i one first takers (none i lt)))
   | inr other ↦ absurd (
       let low = All-head (λ (number : ℕ). number < last + 1) one takers few in
       let lt : one < last = omega (arith, low, other) in

@@ -4,6 +4,7 @@ use Rattle.std.specs.Prelude.{ℕ, zero, suc, nat_le, if◌then◌else◌, List,
 use Rattle.std.specs.Prelude.{None}
 use Rattle.cell_words.specs.declared.fields.Field.{Field}
 use Rattle.cell_words.specs.declared.fields.Field.TheVariants as field
+use Rattle.run_limits.specs.declared.TheConstants.{MOST_CLIENTS, MOST_VERSIONS}
 use Rattle.closed_heap.specs.Words.{number_in}
 use Rattle.core_machine.specs.State.{State, field_of}
 use Rattle.mail_rule.specs.declared.items.Item.{Item}
@@ -14,9 +15,9 @@ cell_in field.Null = None
 cell_in (field.Num n) = None
 cell_in (field.Cell c) = Some c
 
--- a number as that of a sender, of which there are at most 64; 0 is nobody's
+-- a number as that of a sender, of which there are at most `MOST_CLIENTS`; 0 is nobody's
 abbrev pub sender_of : ℕ → ℕ
-sender_of n = if nat_le n 64 then n else 0
+sender_of n = if nat_le n MOST_CLIENTS then n else 0
 
 abbrev pub item_of : State → ℕ → Item
 item_of s cell = record {
@@ -31,14 +32,10 @@ rest_of s zero at = []
 rest_of s (suc n) None = []
 rest_of s (suc n) (Some cell) = item_of s cell ∷ rest_of s n (cell_in (field_of s cell 3))
 
--- a mailbox has at most so many items: each of 64 mutators sends at most 100,000
-abbrev pub most_items : ℕ
-most_items = 6_400_000
-
--- those after the box that the anchor names
-abbrev pub behind_named : State → Option ℕ → List Item
-behind_named s None = []
-behind_named s (Some taken) = rest_of s most_items (cell_in (field_of s taken 3))
+-- those after the box that the anchor names: a mailbox has at most so many items
+abbrev pub after_named : State → Option ℕ → List Item
+after_named s None = []
+after_named s (Some taken) = rest_of s MOST_VERSIONS (cell_in (field_of s taken 3))
 
 abbrev pub rest_in : State → List Item
-rest_in s = behind_named s (cell_in (field_of s 0 0))
+rest_in s = after_named s (cell_in (field_of s 0 0))

@@ -1,5 +1,5 @@
 //! The heap of a run, from its opening to its close. It is closed whatever became of the receiver.
-ghost use Rattle.std.specs.Prelude.{◌≡◌, ◌≤◌, ◌+◌, [], length, vec_capacity};
+ghost use Rattle.std.specs.Prelude.{◌≡◌, ◌≤◌, ◌+◌, ◌-◌, [], length, vec_capacity};
 ghost use Rattle.mail_threads.specs.Opened.{IsOpenMail};
 ghost use Rattle.mail_threads.specs.Taken.{lists_of};
 ghost use Rattle.mail_threads.specs.Workers.{AllReady, HaveWorked};
@@ -9,15 +9,17 @@ ghost use Rattle.mail_run.specs.Comes.{lines_in};
 use crate::closed::Closed;
 use beside_collector::Doing;
 use cell_mailbox::MailPass;
+use cell_words::GREATEST_CYCLES;
 use mail_threads::{Answers, Mailer, Received, run_all};
 use mutator_threads::{Opened, close, run_alongside};
+use run_limits::{MOST_CLIENTS, MOST_COMMANDS};
 use std::alloc::Global;
 use std::sync::Wait;
 use std::thread::Threads;
 
 /// How many lines the scripts have.
 fn lines_of(scripts: &[Vec<u64>]) -> u32
-    requires few { lines_in (lists_of scripts.now) ≤ 100_000 }
+    requires few { lines_in (lists_of scripts.now) ≤ MOST_COMMANDS }
     ensures lines { result ≡ lines_in (lists_of scripts.now) }
 {
     let mut lines = 0;
@@ -38,9 +40,9 @@ pub(crate) fn run_opened<R: Threads + Wait + Sync>(
     opened: Opened<MailPass, Answers>,
     sent: Vec<Answers>,
 ) -> Closed
-    requires few { length scripts.now ≤ 63 }
-    requires lines { lines_in (lists_of scripts.now) ≤ 100_000 }
-    requires cycles { cycles ≤ 4_000_000_000 }
+    requires few { length scripts.now ≤ MOST_CLIENTS - 1 }
+    requires lines { lines_in (lists_of scripts.now) ≤ MOST_COMMANDS }
+    requires cycles { cycles ≤ GREATEST_CYCLES }
     requires opened { IsOpenMail cells scripts.now opened }
     requires empty { sent.items ≡ [] }
     requires room { length scripts.now + 1 ≤ vec_capacity sent }
@@ -57,7 +59,7 @@ pub(crate) fn run_opened<R: Threads + Wait + Sync>(
     let at = &heap;
     let hints = &queue;
     let run = move || -> (Vec<Mailer>, Received)
-        requires { (length scripts.now ≤ 63)
+        requires { (length scripts.now ≤ MOST_CLIENTS - 1)
             × AllReady at.now hints.now scripts.now workers.items
             × (length workers.items ≡ length scripts.now + 1) }
         ensures { HaveWorked at.entry.now scripts.entry.now lines result.0.items result.1 }

@@ -5,15 +5,13 @@ ghost use Rattle.std.specs.Bool.{OnTrue};
 ghost use Rattle.closed_heap.specs.Words.{number_in};
 ghost use Rattle.core_machine.specs.State.{State, field_of};
 ghost use Rattle.heap_table.specs.Images.{Shows};
-ghost use Rattle.mail_run.specs.Rest.{cell_in, item_of, most_items, rest_in, rest_of, sender_of};
+ghost use Rattle.mail_run.specs.Rest.{cell_in, item_of, rest_in, rest_of, sender_of};
 
 use cell_heap::Image;
 use cell_mailbox::Item;
 use cell_words::Field;
 use closed_heap::{field_at, number_of};
-
-/// How many items a mailbox has at most: each of 64 mutators sends at most 100,000.
-const MOST: u32 = 6_400_000;
+use run_limits::{MOST_CLIENTS, MOST_VERSIONS};
 
 /// The number in a field of a cell; 0 if there is none.
 fn number_at(image: &Image, cell: u32, i: usize) -> u64
@@ -34,11 +32,15 @@ fn cell_at(image: &Image, cell: u32, i: usize) -> Option<u32>
     }
 }
 
-/// The number as that of a sender, of which there are at most 64. 0 is nobody's.
+/// The number as that of a sender, of which there are at most `MOST_CLIENTS`. 0 is nobody's.
 fn sender(number: u64) -> u32
     ensures sender { result ≡ sender_of number }
 {
-    if number <= 64 { number as u32 } else { 0 }
+    if number <= u64::from(MOST_CLIENTS) {
+        number as u32
+    } else {
+        0
+    }
 }
 
 /// The item of a box.
@@ -55,10 +57,10 @@ fn item_at(image: &Image, cell: u32) -> Item
 /// Appends the items of a box and of those after it to the others, unless memory runs out.
 fn follow(image: &Image, first: Option<u32>, items: &mut Vec<Item>) -> bool
     ensures rest { OnTrue result ((s : State) → Shows image.now s
-        → items.new.items ≡ items.old.items ++ rest_of s most_items first) }
+        → items.new.items ≡ items.old.items ++ rest_of s MOST_VERSIONS first) }
 {
     let mut at = first;
-    for _box in 0..MOST {
+    for _box in 0..MOST_VERSIONS {
         match at {
             Some(cell) => {
                 if items.push(item_at(image, cell)).is_err() {

@@ -1,5 +1,5 @@
 //! The whole run.
-ghost use Rattle.std.specs.Prelude.{◌≤◌, All, IfOk, length};
+ghost use Rattle.std.specs.Prelude.{◌≤◌, ◌-◌, All, IfOk, length};
 ghost use Rattle.mail_threads.specs.Taken.{lists_of};
 ghost use Rattle.mail_threads.specs.Workers.{AreSmall};
 ghost use Rattle.mail_run.specs.Closed.{IsClosed};
@@ -9,8 +9,10 @@ use crate::closed::Closed;
 use crate::closing::run_opened;
 use crate::finished::MailRun;
 use crate::following::append_rest;
+use cell_words::{GREATEST_CYCLES, GREATEST_POSITION};
 use collector::NoMemory;
 use mail_threads::{Received, open_mail};
+use run_limits::{MOST_CLIENTS, MOST_COMMANDS};
 use std::alloc::Global;
 use std::sync::Wait;
 use std::thread::Threads;
@@ -28,11 +30,11 @@ pub fn mail_run<R: Threads + Wait + Sync>(
     cycles: u32,
 ) -> Result<MailRun, NoMemory>
     requires some { 1 ≤ length scripts.now }
-    requires few { length scripts.now ≤ 63 }
+    requires few { length scripts.now ≤ MOST_CLIENTS - 1 }
     requires small { All (λ script. AreSmall script.items) scripts.now }
-    requires lines { lines_in (lists_of scripts.now) ≤ 100_000 }
-    requires cells { (64 ≤ cells) × (cells ≤ 4_194_304) }
-    requires cycles { cycles ≤ 4_000_000_000 }
+    requires lines { lines_in (lists_of scripts.now) ≤ MOST_COMMANDS }
+    requires cells { (64 ≤ cells) × (cells ≤ GREATEST_POSITION) }
+    requires cycles { cycles ≤ GREATEST_CYCLES }
     ensures { IfOk result (λ run. ComesMail cells cycles (lists_of scripts.now) run.sent.items
         run.items.items run.passes) }
 {

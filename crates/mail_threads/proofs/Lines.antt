@@ -5,6 +5,7 @@ use Rattle.std.proofs.Common.{arith}
 use Rattle.std.proofs.Math.Seq.{take-suc}
 use Rattle.std.proofs.lemmas.List.{length-take-le, length_push}
 use Rattle.std.proofs.lemmas.List.Elements.{All-head, All-tail}
+use Rattle.run_limits.specs.declared.TheConstants.{MOST_COMMANDS}
 use Rattle.core_machine.specs.Own.{no_own}
 use Rattle.core_machine.specs.Trail.{own_along}
 use Rattle.heap_rule.specs.Shape.{Shape}
@@ -140,8 +141,8 @@ posted_next script i d value answers answer a b c there is first second =
 
 -- the pass has room for one line more
 pub posted_few : (script : List ℕ) (i : ℕ) (answers : List (Option ℕ)) (a b : Bound MailPass)
-    → i < length script → length script ≤ 100_000 → Posted (take i script) answers a b
-    → length b.seat.me.pass.sends < 100_000
+    → i < length script → length script ≤ MOST_COMMANDS → Posted (take i script) answers a b
+    → length b.seat.me.pass.sends < MOST_COMMANDS
 posted_few script i answers a b there short posted =
     let same = ap (λ (ss : List Sent). length ss) posted.posts.sends in
     let most = sends_few (take i script) answers in

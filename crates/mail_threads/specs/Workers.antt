@@ -3,6 +3,7 @@
 use Rattle.std.specs.Prelude.{ℕ, ◌≡◌, ◌≤◌, ◌<◌, ◌^◌, ◌++◌, Bool, false, All}
 use Rattle.std.specs.Prelude.{List, [], ◌∷◌, Option, length, Vec, vec_capacity}
 use Rattle.std.specs.declared.alloc.Global.{Global}
+use Rattle.run_limits.specs.declared.TheConstants.{MOST_CLIENTS, MOST_COMMANDS}
 use Rattle.beside_collector.specs.Places.{AllFrom}
 use Rattle.beside_collector.specs.Scripts.{script_of}
 use Rattle.free_cells.specs.declared.queue.FreeQueue.{FreeQueue}
@@ -34,9 +35,9 @@ Mailer = Worker MailPass (Vec (Option ℕ) Global)
 -- for the answers to its lines.
 pub record MaySend (scripts : List (Vec ℕ Global)) (number : ℕ) (sent : Vec (Option ℕ) Global)
     : Type 0 where
-  pub few : number < 64
+  pub few : number < MOST_CLIENTS
   pub small : AreSmall (script_of scripts number)
-  pub short : length (script_of scripts number) ≤ 100_000
+  pub short : length (script_of scripts number) ≤ MOST_COMMANDS
   pub none : sent.items ≡ []
   pub room : length (script_of scripts number) ≤ vec_capacity sent
 

@@ -1,5 +1,5 @@
 //! The receiver alongside the senders, and after them.
-ghost use Rattle.std.specs.Prelude.{◌≡◌, ◌≤◌, ◌+◌, length, vec_capacity};
+ghost use Rattle.std.specs.Prelude.{◌≡◌, ◌≤◌, ◌+◌, ◌-◌, length, vec_capacity};
 ghost use Rattle.mail_threads.specs.Workers.{AllDone, AllReady, HasReceived, HaveWorked, IsDone};
 ghost use Rattle.mail_threads.specs.Workers.{IsHalfway, IsReady, IsWaiting};
 ghost use Rattle.std.specs.Thread.{IsSync};
@@ -13,6 +13,7 @@ use free_cells::FreeQueue;
 use heap_table::CellHeap;
 use mutator_seat::{MutSeat, Mutator};
 use mutator_threads::{Worker, run_each};
+use run_limits::MOST_CLIENTS;
 use std::alloc::Global;
 use std::sync::Wait;
 use std::thread::{Threads, join};
@@ -96,7 +97,7 @@ pub fn run_all<R: Threads + Wait + Sync>(
     lines: u32,
     mailers: Vec<Mailer>,
 ) -> (Vec<Mailer>, Received)
-    requires few { length scripts.now ≤ 63 }
+    requires few { length scripts.now ≤ MOST_CLIENTS - 1 }
     requires ready { AllReady heap.now queue.now scripts.now mailers.items }
     requires many { length mailers.items ≡ length scripts.now + 1 }
     ensures worked { HaveWorked heap.now scripts.now lines result.0.items result.1 }

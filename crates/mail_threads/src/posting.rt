@@ -7,6 +7,7 @@ ghost use Rattle.mail_threads.specs.Calls.{IsFresh, PostsOne, Posted};
 use cell_mailbox::{MailPass, send};
 use free_cells::Hints;
 use mutator_seat::Mutator;
+use run_limits::MOST_COMMANDS;
 use std::sync::Wait;
 
 /// Sends one line: its position, or none where the heap is full.
@@ -21,7 +22,7 @@ fn send_line<R: Wait>(
     requires room { length m.old.seat.me.own.held + 8 ≤ m.old.seat.me.room }
     requires sender { sender ≡ m.old.seat.me.number + 1 }
     requires value { value < 2 ^ 32 }
-    requires few { length m.old.seat.me.pass.sends < 100000 }
+    requires few { length m.old.seat.me.pass.sends < MOST_COMMANDS }
     ensures posts { PostsOne value result m.old m.new }
     ensures queue { queue_of hints.new ≡ queue_of hints.old }
 {
@@ -46,7 +47,7 @@ pub(crate) fn send_all<R: Wait>(
     requires fresh { IsFresh m.old }
     requires sender { sender ≡ m.old.seat.me.number + 1 }
     requires small { All (λ (value : ℕ). value < 2 ^ 32) script.now }
-    requires short { length script.now ≤ 100000 }
+    requires short { length script.now ≤ MOST_COMMANDS }
     requires empty { sent.old.items ≡ [] }
     requires room { length script.now ≤ vec_capacity sent.old }
     ensures posted { Posted script.now sent.new.items m.old m.new }

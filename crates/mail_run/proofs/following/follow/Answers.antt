@@ -1,5 +1,5 @@
 use Rattle.std.proofs.Common.{◌∙◌, ◌-◌, ℕ, suc, Option, ap, arith, not, subst}
-use Rattle.mail_run.specs.Rest.{most_items}
+use Rattle.run_limits.specs.declared.TheConstants.{MOST_VERSIONS}
 use Rattle.mail_run.proofs.Walking.{IsOnWay, ends, goes, pushed, starts, stops}
 use Rattle.mail_run.proofs.following.follow.Goals as goal
 
@@ -10,7 +10,7 @@ pub returns-in-None : goal.returns-in-None
 returns-in-None c = record {
   rest =
       let low = c.loop-box.auto._box-end in
-      let left : ℕ = most_items - c.loop-box._box in
+      let left : ℕ = MOST_VERSIONS - c.loop-box._box in
       ends c.args.image.now c.args.items.now.items c.args.first left c.loop-box.items.items
       (subst (λ (at : Option ℕ). IsOnWay c.args.image.now c.args.items.now.items c.args.first left
       c.loop-box.items.items at) c.in-None.is (c.loop-box.invariant left (omega (arith, low))));

@@ -1,4 +1,5 @@
 use Rattle.std.proofs.Common.{rules, ◌≤◌, List, ℕ, arith, length}
+use Rattle.run_limits.specs.declared.TheConstants.{MOST_COMMANDS}
 use Rattle.beside_collector.proofs.Scripts.{script_is}
 use Rattle.mail_threads.specs.Workers.{AreSmall}
 use Rattle.mail_threads.proofs.Openings.{opens}
@@ -14,6 +15,6 @@ open-requires-clause-own g c number below = (
   omega (arith, below, c.requires.few),
   script_is (λ (script : List ℕ). AreSmall script) (search rules) c.args.scripts.now number
       c.requires.small,
-  script_is (λ (script : List ℕ). length script ≤ 100_000) (omega arith) c.args.scripts.now
+  script_is (λ (script : List ℕ). length script ≤ MOST_COMMANDS) (omega arith) c.args.scripts.now
       number c.requires.short,
 )
