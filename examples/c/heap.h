@@ -159,15 +159,24 @@ heap_code heap_push(heap_mut *m, heap_val v);
 heap_code heap_pop(heap_mut *m, size_t n);
 heap_code heap_root(heap_mut *m, size_t i, heap_val *out);
 heap_code heap_set(heap_mut *m, size_t i, heap_val v);
-/* After OK so many heap_new move nothing and are not refused, and so many places are free. If that
- * is so already, and as many places again are free as a share of all that may want (one for each
- * record, there or asked for, and one for each root), it does nothing. Else a call makes one step.
- * It lets private records go that no root leads to, if places are no concern, none may have a copy,
- * and this is the first such step since a share; or it shares the roots as heap_share does, with at
- * most 1000 copies, or an eighth of the records that there is room for if that is more. PART: there
- * are more steps. WAIT, FULL, NO_ROOM, BAD_PLACE; BAD_SIZE where there is not so much room at all;
- * SPENT. Who reserves so before all else never lacks the places for a share, if heap_seat was given
- * base + places + the room for records + twice that for roots, or more. */
+/* Makes room for so many more private records and places, by one step at most.
+ * OK: there is such room. So many heap_new are not refused, and so many places are free.
+ * PART: a step was made, and there are more to come: call it again.
+ * WAIT, FULL: no cell was free for a copy. Nothing is lost: the next call goes on.
+ * NO_ROOM: there are too few places for a share, or for `places` after one.
+ * BAD_PLACE: base, as in heap_share. BAD_SIZE: more records than there can be.
+ * SPENT: private records moved 4294967295 times. Nothing was done.
+ * After OK, PART and NO_ROOM private records may have moved: heap_root gives references again.
+ *
+ * It does nothing where there is such room, and places besides for a share of all later: one for
+ * each record, there or asked for, and one for each root. Where there are so many places, but not
+ * room for the records, it lets private records go that no root leads to, and the others move. It
+ * does so only where no record may have a copy or was kept by such a step before. Else it makes a
+ * step of heap_share, of at most 1000 copies, or an eighth of the room for records if that is more:
+ * nothing moves until the last step, after which no private record is left.
+ *
+ * Who reserves so before all else never lacks the places for a share, if heap_seat was given base +
+ * places + the room for records + twice that for roots, or more. */
 heap_code heap_reserve(heap_mut *m, size_t base, uint32_t records, size_t places);
 /* Makes cells of the private records that the roots lead to, `most` of them at most (1 or more),
  * and answers PART where there are more to come: nothing has moved then. OK: the held list is its

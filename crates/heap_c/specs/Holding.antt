@@ -1,12 +1,13 @@
 -- What a mutator's handle owns between two calls.
 -- Source: this project's.
-use Rattle.std.specs.Prelude.{ℕ, ◌≡◌, ◌≤◌, true, false, List}
+use Rattle.std.specs.Prelude.{ℕ, ◌≡◌, ◌≤◌, Bool, true, false, List}
 use Rattle.heap_rule.specs.declared.known.Known.{Known}
 use Rattle.heap_table.specs.Seats.{HeapId, SeatView}
 use Rattle.local_records.specs.Local.{IsLocal, Local}
 use Rattle.local_references.specs.Roots.{slot_at}
 use Rattle.local_references.specs.declared.roots.Root.{Root}
 use Rattle.local_references.specs.declared.roots.Root.TheVariants as root
+use Rattle.minor_heap.specs.Spans.{NoneMarked}
 use Rattle.mutator_seat.specs.Bound.{Bound, IsBound, bound}
 use Rattle.sorted_boxes.specs.Holding.{HoldsAs}
 use Rattle.sorted_boxes.specs.Sorts.{Serves, SortList}
@@ -39,6 +40,10 @@ owned_by heap seat sorts local = record { held = held_by heap seat sorts; local 
 -- no root is the anchor's place
 abbrev pub NoAnchor : List Root → Type 0
 NoAnchor roots = (k : ℕ) → slot_at roots k ≡ root.Shared 0 → ⊥
+
+-- Where it is not noted that private records may have copies, none has one.
+abbrev pub NotesCopies : (copied : Bool) → Local → Type 0
+NotesCopies copied local = copied ≡ false → NoneMarked local.copied
 
 -- Besides, the private records are in force by what it knows of its places; of who is out they name
 -- none.

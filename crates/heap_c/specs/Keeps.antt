@@ -2,6 +2,7 @@
 -- Source: this project's.
 use Rattle.std.specs.Prelude.{ℕ, ◌≡◌, ◌<◌, ◌⊎◌, [], List}
 use Rattle.local_records.specs.Local.{IsNextTurn, Local}
+use Rattle.minor_heap.specs.Spans.{NoneMarked}
 use Rattle.heap_c.specs.Calls.{GoesOut, KeepsChosen, MakesAt}
 use Rattle.heap_c.specs.Holding.{Held, Owned}
 use Rattle.heap_c.specs.declared.codes.Code.{Code}
@@ -12,6 +13,8 @@ use Rattle.heap_c.specs.declared.values.HeapVal.{HeapVal}
 pub record IsCleared (old new : Local) : Type 0 where
   pub records : new.records ≡ []
   pub roots : new.roots ≡ []
+  pub none : NoneMarked new.copied
+  pub aged : new.aged ≡ 0
   pub turn : IsNextTurn old.turn new.turn
   pub room : new.room ≡ old.room
   pub most : new.most ≡ old.most

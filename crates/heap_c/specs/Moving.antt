@@ -140,14 +140,15 @@ pub record AgesRecords (old new : Local) : Type 0 where
 abbrev pub AgesFor : (old new : Local) → (records : ℕ) → Code → Type 0
 AgesFor old new records code.Ok =
     AgesRecords old new × (records + length new.records ≤ new.room)
-AgesFor old new records code.Part = AgesRecords old new
+AgesFor old new records code.Part =
+    AgesRecords old new × (new.room < records + length new.records)
 AgesFor old new records code.Spent = (old.turn ≡ 4294967295) × (new ≡ old)
 AgesFor old new records _ = ⊥
 
--- one ageing, of records of which no copy was noted, and no more
-abbrev pub Ages : (copied : Bool) → Owned → Owned → Type 0
-Ages copied m later =
-    (copied ≡ false) × ((later.held ≡ m.held) × AgesRecords m.local later.local)
+-- One ageing and no more, of records of which none has a copy and none was kept by an ageing before.
+abbrev pub Ages : Owned → Owned → Type 0
+Ages m later = NoneMarked m.local.copied
+    × ((m.local.aged ≡ 0) × ((later.held ≡ m.held) × AgesRecords m.local later.local))
 
 -- at most how many copies a call makes that makes room
 abbrev pub slice_of : Owned → ℕ
@@ -163,20 +164,17 @@ module _ (m later : Owned) (base places : ℕ) where
   SharesFor c = SharesRoots m later base (slice_of m) c
 
 -- There is room for so many more records and places: as it was, after an ageing, or after the last
--- step of a sharing. Or one of these was done, and there is more to do.
-module _ (copied : Bool) (m later : Owned) (base records places : ℕ) where
-  abbrev pub ReservesRoom : Code → Type 0
-  ReservesRoom code.Ok = IsIn m.held
+-- step of a sharing. Or there was an ageing that is not enough, or a step of a sharing that has not
+-- ended.
+module _ (m later : Owned) (base records places : ℕ) where
+  abbrev pub MakesRoom : Code → Type 0
+  MakesRoom code.Ok = IsIn m.held
       × ((records + length later.local.records ≤ later.local.room)
       × ((held_of later.held + places ≤ later.held.bound.seat.me.room)
-      × ((later ≡ m) ⊎ (Ages copied m later ⊎ SharesFor m later base places code.Ok))))
-  ReservesRoom code.Part =
-      IsIn m.held × (Ages copied m later ⊎ SharesFor m later base places code.Part)
-  ReservesRoom code.BadSize = (m.local.room < records) × (later ≡ m)
-  ReservesRoom code.Spent = (m.local.turn ≡ 4294967295) × (later ≡ m)
-  ReservesRoom c = SharesFor m later base places c
-
--- whether copies were noted is known to the handle alone
-abbrev pub MakesRoom : Owned → Owned → (base records places : ℕ) → Code → Type 0
-MakesRoom m later base records places c =
-    (copied : Bool) × ReservesRoom copied m later base records places c
+      × ((later ≡ m) ⊎ (Ages m later ⊎ SharesFor m later base places code.Ok))))
+  MakesRoom code.Part = IsIn m.held
+      × ((Ages m later × (later.local.room < records + length later.local.records))
+      ⊎ SharesFor m later base places code.Part)
+  MakesRoom code.BadSize = (m.local.room < records) × (later ≡ m)
+  MakesRoom code.Spent = (m.local.turn ≡ 4294967295) × (later ≡ m)
+  MakesRoom c = SharesFor m later base places c

@@ -2,7 +2,8 @@
 ghost use Rattle.std.specs.Prelude.{◌≡◌, length};
 ghost use Rattle.heap_c.specs.Calls.{SwapsField, WritesField};
 ghost use Rattle.heap_c.specs.Keeps.{KeepsAbove, OnHeld};
-ghost use Rattle.heap_c.specs.Handles.{AreVals, GivesAll, GivesKept, GivesPlace, GivesSame, GivesVal};
+ghost use Rattle.heap_c.specs.Handles.{AreVals, GivesAll, GivesKept, GivesPlace, GivesSame};
+ghost use Rattle.heap_c.specs.Handles.{GivesVal};
 ghost use Rattle.heap_c.specs.Handles.{Numbered, OfHandle, OfHandleOr};
 
 use crate::codes::Code;
@@ -21,7 +22,8 @@ fn keep(mutator: &mut HeapMut, n: usize, place: usize, count: usize) -> Code
 }
 
 fn make(mutator: &mut HeapMut, vals: &[HeapVal], place: &mut usize) -> Code
-    ensures made { OfHandleOr (place.new ≡ place.old) (OnHeld (λ old new c. GivesPlace vals.now place.old place.new old new c))
+    ensures made { OfHandleOr (place.new ≡ place.old)
+        (OnHeld (λ old new c. GivesPlace vals.now place.old place.new old new c))
         mutator.old.mine mutator.new.mine result }
 {
     match mutator.mine() {
@@ -37,7 +39,8 @@ fn make(mutator: &mut HeapMut, vals: &[HeapVal], place: &mut usize) -> Code
 }
 
 fn make_at(mutator: &mut HeapMut, first: usize, vals: &[HeapVal], place: &mut usize) -> Code
-    ensures made { OfHandleOr (place.new ≡ place.old) (λ old new c. GivesKept first vals.now place.old place.new old new c)
+    ensures made { OfHandleOr (place.new ≡ place.old)
+        (λ old new c. GivesKept first vals.now place.old place.new old new c)
         mutator.old.mine mutator.new.mine result }
 {
     match mutator.mine() {
@@ -53,7 +56,8 @@ fn make_at(mutator: &mut HeapMut, first: usize, vals: &[HeapVal], place: &mut us
 }
 
 fn read(mutator: &mut HeapMut, place: usize, field: usize, out: &mut HeapVal) -> Code
-    ensures read { OfHandleOr (out.new ≡ out.old) (OnHeld (λ old new c. GivesVal place field out.old out.new old new c))
+    ensures read { OfHandleOr (out.new ≡ out.old)
+        (OnHeld (λ old new c. GivesVal place field out.old out.new old new c))
         mutator.old.mine mutator.new.mine result }
 {
     match mutator.mine() {
@@ -81,7 +85,8 @@ fn give_five(values: [Value; 5], out: &mut [HeapVal])
 }
 
 fn read_all(mutator: &mut HeapMut, place: usize, out: &mut [HeapVal]) -> Code
-    ensures read { OfHandleOr (out.new ≡ out.old) (OnHeld (λ old new c. GivesAll place out.old out.new old new c))
+    ensures read { OfHandleOr (out.new ≡ out.old)
+        (OnHeld (λ old new c. GivesAll place out.old out.new old new c))
         mutator.old.mine mutator.new.mine result }
 {
     match mutator.mine() {
@@ -97,8 +102,8 @@ fn read_all(mutator: &mut HeapMut, place: usize, out: &mut [HeapVal]) -> Code
 }
 
 fn write(mutator: &mut HeapMut, place: usize, field: usize, val: HeapVal) -> Code
-    ensures wrote { OfHandle (OnHeld (λ old new c. WritesField old new place field val c)) mutator.old.mine
-        mutator.new.mine result }
+    ensures wrote { OfHandle (OnHeld (λ old new c. WritesField old new place field val c))
+        mutator.old.mine mutator.new.mine result }
 {
     match mutator.mine() {
         None => Code::NoHandle,
@@ -117,7 +122,8 @@ fn swap(mutator: &mut HeapMut, place: usize, field: usize, was: HeapVal, now: He
 }
 
 fn same(mutator: &mut HeapMut, one: usize, other: usize, same: &mut i32) -> Code
-    ensures same { OfHandleOr (same.new ≡ same.old) (OnHeld (λ old new c. GivesSame one other same.old same.new old new c))
+    ensures same { OfHandleOr (same.new ≡ same.old)
+        (OnHeld (λ old new c. GivesSame one other same.old same.new old new c))
         mutator.old.mine mutator.new.mine result }
 {
     match mutator.mine() {
@@ -144,8 +150,9 @@ pub extern "C" fn heap_keep(mutator: &mut HeapMut, n: usize, place: usize, count
 /// Makes a cell with these values, the other fields null.
 #[unsafe(no_mangle)]
 pub extern "C" fn heap_make(mutator: &mut HeapMut, vals: &[HeapVal], place: &mut usize) -> i32
-    ensures made { Numbered result (OfHandleOr (place.new ≡ place.old) (OnHeld (λ old new c. GivesPlace vals.now place.old place.new old
-        new c)) mutator.old.mine mutator.new.mine) }
+    ensures made { Numbered result (OfHandleOr (place.new ≡ place.old)
+        (OnHeld (λ old new c. GivesPlace vals.now place.old place.new old new c))
+        mutator.old.mine mutator.new.mine) }
 {
     make(mutator, vals, place).number()
 }
@@ -158,8 +165,9 @@ pub extern "C" fn heap_make_at(
     vals: &[HeapVal],
     place: &mut usize,
 ) -> i32
-    ensures made { Numbered result (OfHandleOr (place.new ≡ place.old) (λ old new c. GivesKept keep vals.now place.old
-        place.new old new c) mutator.old.mine mutator.new.mine) }
+    ensures made { Numbered result (OfHandleOr (place.new ≡ place.old)
+        (λ old new c. GivesKept keep vals.now place.old place.new old new c)
+        mutator.old.mine mutator.new.mine) }
 {
     make_at(mutator, keep, vals, place).number()
 }
@@ -172,8 +180,9 @@ pub extern "C" fn heap_read(
     field: usize,
     out: &mut HeapVal,
 ) -> i32
-    ensures read { Numbered result (OfHandleOr (out.new ≡ out.old) (OnHeld (λ old new c. GivesVal place field out.old out.new old new
-        c)) mutator.old.mine mutator.new.mine) }
+    ensures read { Numbered result (OfHandleOr (out.new ≡ out.old)
+        (OnHeld (λ old new c. GivesVal place field out.old out.new old new c))
+        mutator.old.mine mutator.new.mine) }
 {
     read(mutator, place, field, out).number()
 }
@@ -181,8 +190,9 @@ pub extern "C" fn heap_read(
 /// Reads all fields, one after the other.
 #[unsafe(no_mangle)]
 pub extern "C" fn heap_read_all(mutator: &mut HeapMut, place: usize, out: &mut [HeapVal]) -> i32
-    ensures read { Numbered result (OfHandleOr (out.new ≡ out.old) (OnHeld (λ old new c. GivesAll place out.old out.new old new
-        c)) mutator.old.mine mutator.new.mine) }
+    ensures read { Numbered result (OfHandleOr (out.new ≡ out.old)
+        (OnHeld (λ old new c. GivesAll place out.old out.new old new c))
+        mutator.old.mine mutator.new.mine) }
 {
     read_all(mutator, place, out).number()
 }
@@ -190,7 +200,8 @@ pub extern "C" fn heap_read_all(mutator: &mut HeapMut, place: usize, out: &mut [
 /// Stores a value in a field, whatever stands there.
 #[unsafe(no_mangle)]
 pub extern "C" fn heap_write(mutator: &mut HeapMut, place: usize, field: usize, val: HeapVal) -> i32
-    ensures wrote { Numbered result (OfHandle (OnHeld (λ old new c. WritesField old new place field val c))
+    ensures wrote { Numbered result (OfHandle
+        (OnHeld (λ old new c. WritesField old new place field val c))
         mutator.old.mine mutator.new.mine) }
 {
     write(mutator, place, field, val).number()
@@ -205,7 +216,8 @@ pub extern "C" fn heap_swap(
     was: HeapVal,
     now: HeapVal,
 ) -> i32
-    ensures swapped { Numbered result (OfHandle (OnHeld (λ old new c. SwapsField old new place field was now c))
+    ensures swapped { Numbered result (OfHandle
+        (OnHeld (λ old new c. SwapsField old new place field was now c))
         mutator.old.mine mutator.new.mine) }
 {
     swap(mutator, place, field, was, now).number()
@@ -219,8 +231,9 @@ pub extern "C" fn heap_same(
     other: usize,
     is_same: &mut i32,
 ) -> i32
-    ensures same { Numbered result (OfHandleOr (is_same.new ≡ is_same.old) (OnHeld (λ old new c. GivesSame one other is_same.old is_same.new
-        old new c)) mutator.old.mine mutator.new.mine) }
+    ensures same { Numbered result (OfHandleOr (is_same.new ≡ is_same.old)
+        (OnHeld (λ old new c. GivesSame one other is_same.old is_same.new old new c))
+        mutator.old.mine mutator.new.mine) }
 {
     same(mutator, one, other, is_same).number()
 }

@@ -29,8 +29,8 @@ pub(crate) fn read(
     ensures records { StillRecords seat.old.me.known seat.new.me.known }
     ensures longer { length seat.old.me.known ≤ length seat.new.me.known }
     ensures inside { seat.new.me.presence.inside ≡ seat.old.me.presence.inside }
-    ensures read { ReadsField (held_by heap.now seat.old sorts.old) (held_by heap.now seat.new sorts.new) place field
-        result }
+    ensures read { ReadsField (held_by heap.now seat.old sorts.old)
+        (held_by heap.now seat.new sorts.new) place field result }
 {
     if !seat.is_in() {
         return Err(Code::NotIn);
@@ -62,8 +62,8 @@ pub(crate) fn read_all(
     ensures records { StillRecords seat.old.me.known seat.new.me.known }
     ensures longer { length seat.old.me.known ≤ length seat.new.me.known }
     ensures inside { seat.new.me.presence.inside ≡ seat.old.me.presence.inside }
-    ensures read { ReadsAllFields (held_by heap.now seat.old sorts.old) (held_by heap.now seat.new sorts.new) place five
-        result }
+    ensures read { ReadsAllFields (held_by heap.now seat.old sorts.old)
+        (held_by heap.now seat.new sorts.new) place five result }
 {
     if !seat.is_in() {
         return Err(Code::NotIn);
@@ -105,8 +105,8 @@ pub(crate) fn write(
     ensures records { StillRecords seat.old.me.known seat.new.me.known }
     ensures longer { length seat.old.me.known ≤ length seat.new.me.known }
     ensures inside { seat.new.me.presence.inside ≡ seat.old.me.presence.inside }
-    ensures wrote { WritesField (held_by heap.now seat.old sorts.now) (held_by heap.now seat.new sorts.now) place field val
-        result }
+    ensures wrote { WritesField (held_by heap.now seat.old sorts.now)
+        (held_by heap.now seat.new sorts.now) place field val result }
 {
     if !seat.is_in() {
         return Code::NotIn;
@@ -146,8 +146,8 @@ pub(crate) fn swap(
     ensures records { StillRecords seat.old.me.known seat.new.me.known }
     ensures longer { length seat.old.me.known ≤ length seat.new.me.known }
     ensures inside { seat.new.me.presence.inside ≡ seat.old.me.presence.inside }
-    ensures swapped { SwapsField (held_by heap.now seat.old sorts.now) (held_by heap.now seat.new sorts.now) place field was
-        now result }
+    ensures swapped { SwapsField (held_by heap.now seat.old sorts.now)
+        (held_by heap.now seat.new sorts.now) place field was now result }
 {
     if !seat.is_in() {
         return Code::NotIn;
@@ -185,8 +185,8 @@ pub(crate) fn is_same(
     ensures records { StillRecords seat.old.me.known seat.new.me.known }
     ensures longer { length seat.old.me.known ≤ length seat.new.me.known }
     ensures inside { seat.new.me.presence.inside ≡ seat.old.me.presence.inside }
-    ensures same { ComparesPlaces (held_by heap.now seat.old sorts.now) (held_by heap.now seat.new sorts.now) one other
-        result }
+    ensures same { ComparesPlaces (held_by heap.now seat.old sorts.now)
+        (held_by heap.now seat.new sorts.now) one other result }
 {
     let _ = sorts;
     if !seat.is_in() {

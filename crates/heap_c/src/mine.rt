@@ -1,5 +1,6 @@
 //! What a mutator's handle owns: its seat, and a share of the heap that the seat is of.
-ghost use Rattle.std.specs.Prelude.{◌≡◌, ◌≤◌, ◌+◌, [], if◌then◌else◌, List, OnErr, OnOk, length, false};
+ghost use Rattle.std.specs.Prelude.{◌≡◌, ◌≤◌, ◌+◌, [], if◌then◌else◌, List, OnErr, OnOk, length};
+ghost use Rattle.std.specs.Prelude.{false};
 ghost use Rattle.std.specs.Bool.{OnFalse, OnTrue};
 ghost use Rattle.heap_c.specs.Calls.{ComesIn, ComparesPlaces, MakesCell};
 ghost use Rattle.heap_c.specs.Calls.{ReachesSafePoint, ReadsAllFields, ReadsField, SwapsField};
@@ -7,10 +8,12 @@ ghost use Rattle.heap_c.specs.Calls.{WritesField};
 ghost use Rattle.heap_c.specs.Holding.{owned_by};
 ghost use Rattle.heap_c.specs.Keeps.{EndsAll, KeepsAbove, MakesAbove};
 ghost use Rattle.heap_c.specs.Moving.{MakesRoom, PromotesRecord, ReleasesPlaces, SharesRoots};
-ghost use Rattle.heap_c.specs.Records.{GetsAllFields, GetsField, MakesRecord, PopsRoots, PushesRoot};
+ghost use Rattle.heap_c.specs.Records.{GetsAllFields, GetsField, MakesRecord, PopsRoots};
+ghost use Rattle.heap_c.specs.Records.{PushesRoot};
 ghost use Rattle.heap_c.specs.Records.{SetsRoot, TellsRoot};
 ghost use Rattle.heap_rule.specs.declared.known.Known.{Known};
 ghost use Rattle.local_records.specs.Local.{IsLocal};
+ghost use Rattle.minor_heap.specs.Spans.{NoneMarked};
 ghost use Rattle.heap_c.specs.declared.codes.Code.TheVariants as code;
 ghost use Rattle.heap_table.specs.Seats.{IsSeatOf};
 ghost use Rattle.heap_rule.specs.Asks.{MayComeIn};
@@ -48,7 +51,7 @@ pub struct Mine {
 impl Model for Mine {
     ghost use Rattle.std.specs.Coded.{codes};
     ghost use Rattle.cell_words.specs.contracts.terms.Term as term;
-    ghost use Rattle.heap_c.specs.Holding.{IsOwned, Owned, owned_by};
+    ghost use Rattle.heap_c.specs.Holding.{IsOwned, NotesCopies, Owned, owned_by};
 
     ghost Value = { Owned };
 
@@ -56,7 +59,8 @@ impl Model for Mine {
 
     ghost view = { λ m. owned_by m.heap.value m.seat m.sorts m.local };
 
-    ghost invariant = { λ m. IsOwned m.heap.value m.seat m.sorts m.local };
+    ghost invariant = { λ m. IsOwned m.heap.value m.seat m.sorts m.local
+        × NotesCopies m.copied m.local };
 }
 
 impl Mine {
@@ -75,6 +79,7 @@ impl Mine {
         requires serves { Serves sorts seat.me }
         requires local { (known : List Known) → IsLocal local known }
         requires rootless { local.roots ≡ [] }
+        requires none { NoneMarked local.copied }
         ensures mine { result ≡ owned_by heap.value seat sorts local }
     {
         // Who is out has begun no write.
@@ -112,7 +117,8 @@ impl Mine {
 
     /// How many places are free.
     pub(crate) fn room(&self) -> usize
-        ensures room { length self.now.held.bound.seat.me.own.held + result ≡ self.now.held.bound.seat.me.room }
+        ensures room { length self.now.held.bound.seat.me.own.held + result
+            ≡ self.now.held.bound.seat.me.room }
     {
         self.seat.room()
     }
@@ -127,16 +133,23 @@ impl Mine {
 
     /// Goes out.
     pub(crate) fn end(&mut self) -> Code
-        ensures answer { result ≡ (if self.old.held.bound.seat.me.presence.inside then code.Ok else code.NotIn) }
+        ensures answer { result ≡ (if self.old.held.bound.seat.me.presence.inside then code.Ok else
+            code.NotIn) }
         ensures ended { EndsAll self.old self.new result }
     {
-        self.copied = false;
-        owned::end(&self.heap, &mut self.seat, &self.sorts, &mut self.local)
+        owned::end(
+            &self.heap,
+            &mut self.seat,
+            &self.sorts,
+            &mut self.local,
+            &mut self.copied,
+        )
     }
 
     /// Answers a handshake, if one is asked for.
     pub(crate) fn answer(&mut self) -> Code
-        ensures answer { result ≡ (if self.old.held.bound.seat.me.presence.inside then code.Ok else code.NotIn) }
+        ensures answer { result ≡ (if self.old.held.bound.seat.me.presence.inside then code.Ok else
+            code.NotIn) }
         ensures answered { ReachesSafePoint self.old.held self.new.held result }
         ensures local { self.new.local ≡ self.old.local }
     {
@@ -394,12 +407,12 @@ impl Mine {
             &mut self.seat,
             &mut self.sorts,
             &mut self.local,
+            &mut self.copied,
             &mut cells,
             val,
             most,
         );
         self.wait = cells.wait;
-        self.copied = true;
         copy
     }
 
@@ -413,12 +426,12 @@ impl Mine {
             &mut self.seat,
             &mut self.sorts,
             &mut self.local,
+            &mut self.copied,
             &mut cells,
             base,
             most,
         );
         self.wait = cells.wait;
-        self.copied = code != Code::Ok;
         code
     }
 
@@ -427,20 +440,18 @@ impl Mine {
         ensures reserved { MakesRoom self.old self.new base records places result }
     {
         let mut cells = FreeCells::new(&self.sharing, self.wait);
-        let mut copied = self.copied;
         let code = moving::reserve(
             &self.heap,
             &mut self.seat,
             &mut self.sorts,
             &mut self.local,
+            &mut self.copied,
             &mut cells,
-            &mut copied,
             base,
             records,
             places,
         );
         self.wait = cells.wait;
-        self.copied = copied;
         code
     }
 

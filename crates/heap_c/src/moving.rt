@@ -3,9 +3,9 @@ ghost use Rattle.std.specs.Prelude.{◌≡◌, ◌≢◌, ◌<◌, ◌≤◌, �
 ghost use Rattle.std.specs.Prelude.{IfErr, IfOk, List, length, max, true, ℕ};
 ghost use Rattle.std.specs.Bool.{OnFalse, OnTrue};
 ghost use Rattle.heap_c.specs.Claiming.{SaysNone};
-ghost use Rattle.heap_c.specs.Holding.{IsOwned, NoAnchor, owned_by};
-ghost use Rattle.heap_c.specs.Moving.{AgesFor, CopiesRecords, PromotesRecord, ReleasesPlaces};
-ghost use Rattle.heap_c.specs.Moving.{ReservesRoom, SettlesRoots, SharesFor, SharesRoots};
+ghost use Rattle.heap_c.specs.Holding.{IsOwned, NoAnchor, NotesCopies, owned_by};
+ghost use Rattle.heap_c.specs.Moving.{AgesFor, CopiesRecords, MakesRoom, PromotesRecord};
+ghost use Rattle.heap_c.specs.Moving.{ReleasesPlaces, SettlesRoots, SharesFor, SharesRoots};
 ghost use Rattle.heap_c.specs.Moving.{TellsRoots};
 ghost use Rattle.heap_c.specs.declared.codes.Code.TheVariants as code;
 ghost use Rattle.heap_rule.specs.declared.known.Known.{Known};
@@ -15,6 +15,7 @@ ghost use Rattle.local_records.specs.Settling.{cell_count, cells_in};
 ghost use Rattle.local_references.specs.Roots.{private_of, slot_at};
 ghost use Rattle.local_references.specs.declared.roots.Root.{Root};
 ghost use Rattle.minor_heap.specs.Nursery.{Stands};
+ghost use Rattle.minor_heap.specs.Spans.{NoneMarked};
 ghost use Rattle.mutator_seat.specs.Bound.{bound};
 ghost use Rattle.promotion.specs.Copying.{GrownBy};
 ghost use Rattle.promotion.specs.Promoting.{knows_term};
@@ -122,18 +123,21 @@ fn copy_one(
 }
 
 /// The place of the copy of a private record. It and what it leads to is copied first, and at most
-/// so many records.
+/// so many records. It is noted that records may have copies then.
 pub(crate) fn promote(
     heap: &CellHeap<Rule>,
     seat: &mut MutSeat<Rule>,
     sorts: &mut Sorts,
     local: &mut LocalRecords,
+    copied: &mut bool,
     cells: &mut FreeCells<'_>,
     val: HeapVal,
     most: usize,
 ) -> Result<usize, Code>
     requires owned { IsOwned heap.now seat.old sorts.old local.old }
+    requires noted { NotesCopies copied.old local.old }
     ensures owned { IsOwned heap.now seat.new sorts.new local.new }
+    ensures noted { NotesCopies copied.new local.new }
     ensures promoted { PromotesRecord (owned_by heap.now seat.old sorts.old local.old)
         (owned_by heap.now seat.new sorts.new local.new) val most result }
     ensures waits { IfErr result (λ code. SaysNone code
@@ -150,6 +154,7 @@ pub(crate) fn promote(
     }
     let free = seat.room();
     let most = at_most(most, free);
+    *copied = true;
     match copy_one(heap, seat, sorts, local, cells, r, most) {
         Ok(place) => Ok(place),
         Err(Progress::Part) => {
@@ -241,18 +246,22 @@ fn settle(
 }
 
 /// Copies private records that the roots lead to, and at most so many. Once all have been copied
-/// the first `base` places are held and then the roots, and no private record is left.
+/// the first `base` places are held and then the roots, and no private record is left. It is noted
+/// whether records may have copies then.
 pub(crate) fn share(
     heap: &CellHeap<Rule>,
     seat: &mut MutSeat<Rule>,
     sorts: &mut Sorts,
     local: &mut LocalRecords,
+    copied: &mut bool,
     cells: &mut FreeCells<'_>,
     base: usize,
     most: usize,
 ) -> Code
     requires owned { IsOwned heap.now seat.old sorts.old local.old }
+    requires noted { NotesCopies copied.old local.old }
     ensures owned { IsOwned heap.now seat.new sorts.new local.new }
+    ensures noted { NotesCopies copied.new local.new }
     ensures shared { SharesRoots (owned_by heap.now seat.old sorts.old local.old)
         (owned_by heap.now seat.new sorts.new local.new) base most result }
     ensures waits { SaysNone result → cells.new.refusals ≢ cells.old.refusals }
@@ -273,9 +282,11 @@ pub(crate) fn share(
         return Code::NoRoom;
     }
     let most = at_most(most, free - roots);
+    *copied = true;
     match copy_rooted(heap, seat, sorts, local, cells, most) {
         Progress::Done => {
             settle(heap, seat, sorts, local, base);
+            *copied = false;
             Code::Ok
         }
         Progress::Part => { if most == 0 { Code::NoRoom } else { Code::Part } }
@@ -303,41 +314,52 @@ fn is_ok(answer: Code) -> bool
     }
 }
 
-/// One step of a sharing that is to leave so many places free. It is noted whether records have
-/// copies then.
+/// One step of a sharing that is to leave so many places free.
 fn share_for(
     heap: &CellHeap<Rule>,
     seat: &mut MutSeat<Rule>,
     sorts: &mut Sorts,
     local: &mut LocalRecords,
-    cells: &mut FreeCells<'_>,
     copied: &mut bool,
+    cells: &mut FreeCells<'_>,
     base: usize,
     places: usize,
 ) -> Code
     requires owned { IsOwned heap.now seat.old sorts.old local.old }
+    requires noted { NotesCopies copied.old local.old }
     ensures owned { IsOwned heap.now seat.new sorts.new local.new }
+    ensures noted { NotesCopies copied.new local.new }
     ensures shared { SharesFor (owned_by heap.now seat.old sorts.old local.old)
         (owned_by heap.now seat.new sorts.new local.new) base places result }
     ensures waits { SaysNone result → cells.new.refusals ≢ cells.old.refusals }
 {
     let most = slice_of(local);
-    let code = share(heap, seat, sorts, local, cells, base, most);
+    let code = share(heap, seat, sorts, local, copied, cells, base, most);
     if is_ok(code) {
-        *copied = false;
         if seat.room() < places {
             Code::NoRoom
         } else {
             Code::Ok
         }
     } else {
-        *copied = true;
         code
     }
 }
 
+/// Whether an ageing may come: no record has a copy, which would be lost, and no ageing came since
+/// the last sharing.
+fn may_age(copied: bool, local: &LocalRecords) -> bool
+    requires noted { NotesCopies copied local.now }
+    ensures none { OnTrue result (NoneMarked local.now.copied) }
+    ensures first { OnTrue result (local.now.aged ≡ 0) }
+{
+    !copied && !local.has_aged()
+}
+
 /// Lets records go that no root leads to: whether that is enough for so many more.
 fn age(local: &mut LocalRecords, records: u32) -> Code
+    requires none { NoneMarked local.old.copied }
+    ensures none { NoneMarked local.new.copied }
     ensures ages { AgesFor local.old local.new records result }
     ensures local { (known : List Known) → IsLocal local.old known → IsLocal local.new known }
     ensures apart { NoAnchor local.old.roots → NoAnchor local.new.roots }
@@ -370,22 +392,23 @@ fn has_places(free: usize, places: usize, roots: usize, all: u32, records: u32) 
     u64::from(all) + u64::from(records) <= (left - roots) as u64
 }
 
-/// Makes room for so many more private records and places, by one step. Records that have copies,
-/// where that is noted, are not aged: they would lose these.
+/// Makes room for so many more private records and places, by one step.
 pub(crate) fn reserve(
     heap: &CellHeap<Rule>,
     seat: &mut MutSeat<Rule>,
     sorts: &mut Sorts,
     local: &mut LocalRecords,
-    cells: &mut FreeCells<'_>,
     copied: &mut bool,
+    cells: &mut FreeCells<'_>,
     base: usize,
     records: u32,
     places: usize,
 ) -> Code
     requires owned { IsOwned heap.now seat.old sorts.old local.old }
+    requires noted { NotesCopies copied.old local.old }
     ensures owned { IsOwned heap.now seat.new sorts.new local.new }
-    ensures reserved { ReservesRoom copied.old (owned_by heap.now seat.old sorts.old local.old)
+    ensures noted { NotesCopies copied.new local.new }
+    ensures reserved { MakesRoom (owned_by heap.now seat.old sorts.old local.old)
         (owned_by heap.now seat.new sorts.new local.new) base records places result }
     ensures waits { SaysNone result → cells.new.refusals ≢ cells.old.refusals }
 {
@@ -407,12 +430,9 @@ pub(crate) fn reserve(
         if records <= spare {
             return Code::Ok;
         }
-        let has_copies = *copied;
-        if !has_copies {
-            if !local.has_aged() {
-                return age(local, records);
-            }
+        if may_age(*copied, local) {
+            return age(local, records);
         }
     }
-    share_for(heap, seat, sorts, local, cells, copied, base, places)
+    share_for(heap, seat, sorts, local, copied, cells, base, places)
 }

@@ -3,7 +3,7 @@ ghost use Rattle.std.specs.Prelude.{◌≡◌, ◌<◌, if◌then◌else◌};
 ghost use Rattle.heap_c.specs.Calls.{ComesIn, ComparesPlaces, GoesOut, KeepsChosen, MakesAt};
 ghost use Rattle.heap_c.specs.Calls.{MakesCell, ReachesSafePoint, ReadsAllFields, ReadsField};
 ghost use Rattle.heap_c.specs.Calls.{SwapsField, WritesField};
-ghost use Rattle.heap_c.specs.Holding.{IsOwned, held_by, owned_by};
+ghost use Rattle.heap_c.specs.Holding.{IsOwned, NotesCopies, held_by, owned_by};
 ghost use Rattle.heap_c.specs.Keeps.{EndsAll, KeepsAbove, MakesAbove};
 ghost use Rattle.heap_c.specs.Records.{GetsAllFields, GetsField};
 ghost use Rattle.heap_c.specs.declared.codes.Code.TheVariants as code;
@@ -29,27 +29,33 @@ pub(crate) fn begin(
 ) -> Code
     requires owned { IsOwned heap.now seat.old sorts.now local.now }
     ensures owned { IsOwned heap.now seat.new sorts.now local.now }
-    ensures begun { ComesIn (held_by heap.now seat.old sorts.now) (held_by heap.now seat.new sorts.now) result }
+    ensures begun { ComesIn (held_by heap.now seat.old sorts.now)
+        (held_by heap.now seat.new sorts.now) result }
 {
     let _ = local;
     using::begin(heap, seat, sorts)
 }
 
-/// Goes out, and lets all private records go.
+/// Goes out, and lets all private records go, and their copies.
 pub(crate) fn end(
     heap: &CellHeap<Rule>,
     seat: &mut MutSeat<Rule>,
     sorts: &Sorts,
     local: &mut LocalRecords,
+    copied: &mut bool,
 ) -> Code
     requires owned { IsOwned heap.now seat.old sorts.now local.old }
+    requires noted { NotesCopies copied.old local.old }
     ensures owned { IsOwned heap.now seat.new sorts.now local.new }
+    ensures noted { NotesCopies copied.new local.new }
     ensures answer { result ≡ (if seat.old.me.presence.inside then code.Ok else code.NotIn) }
-    ensures ended { EndsAll (owned_by heap.now seat.old sorts.now local.old) (owned_by heap.now seat.new sorts.now local.new) result }
+    ensures ended { EndsAll (owned_by heap.now seat.old sorts.now local.old)
+        (owned_by heap.now seat.new sorts.now local.new) result }
 {
     let code = using::end(heap, seat, sorts);
     if code == Code::Ok {
         local.clear();
+        *copied = false;
     }
     code
 }
@@ -64,7 +70,8 @@ pub(crate) fn answer(
     requires owned { IsOwned heap.now seat.old sorts.now local.now }
     ensures owned { IsOwned heap.now seat.new sorts.now local.now }
     ensures answer { result ≡ (if seat.old.me.presence.inside then code.Ok else code.NotIn) }
-    ensures answered { ReachesSafePoint (held_by heap.now seat.old sorts.now) (held_by heap.now seat.new sorts.now) result }
+    ensures answered { ReachesSafePoint (held_by heap.now seat.old sorts.now)
+        (held_by heap.now seat.new sorts.now) result }
 {
     let _ = local;
     using::answer(heap, seat, sorts)
@@ -82,7 +89,8 @@ pub(crate) fn keep(
 ) -> Code
     requires owned { IsOwned heap.now seat.old sorts.old local.now }
     ensures owned { IsOwned heap.now seat.new sorts.new local.now }
-    ensures kept { KeepsAbove (owned_by heap.now seat.old sorts.old local.now) (owned_by heap.now seat.new sorts.new local.now) n place count result }
+    ensures kept { KeepsAbove (owned_by heap.now seat.old sorts.old local.now)
+        (owned_by heap.now seat.new sorts.new local.now) n place count result }
 {
     if n < local.named() {
         return Code::BadPlace;
@@ -102,7 +110,8 @@ pub(crate) fn make(
 ) -> Result<usize, Code>
     requires owned { IsOwned heap.now seat.old sorts.old local.now }
     ensures owned { IsOwned heap.now seat.new sorts.new local.now }
-    ensures made { MakesCell (held_by heap.now seat.old sorts.old) (held_by heap.now seat.new sorts.new) vals.now result }
+    ensures made { MakesCell (held_by heap.now seat.old sorts.old)
+        (held_by heap.now seat.new sorts.new) vals.now result }
 {
     let _ = local;
     using::make(heap, seat, sorts, sharing, wait, vals)
@@ -121,7 +130,8 @@ pub(crate) fn make_at(
 ) -> Code
     requires owned { IsOwned heap.now seat.old sorts.old local.now }
     ensures owned { IsOwned heap.now seat.new sorts.new local.now }
-    ensures made { MakesAbove (owned_by heap.now seat.old sorts.old local.now) (owned_by heap.now seat.new sorts.new local.now) first vals.now result }
+    ensures made { MakesAbove (owned_by heap.now seat.old sorts.old local.now)
+        (owned_by heap.now seat.new sorts.new local.now) first vals.now result }
 {
     if first < local.named() {
         return Code::BadPlace;
@@ -140,7 +150,8 @@ pub(crate) fn read(
 ) -> Result<Value, Code>
     requires owned { IsOwned heap.now seat.old sorts.old local.now }
     ensures owned { IsOwned heap.now seat.new sorts.new local.now }
-    ensures read { ReadsField (held_by heap.now seat.old sorts.old) (held_by heap.now seat.new sorts.new) place field result }
+    ensures read { ReadsField (held_by heap.now seat.old sorts.old)
+        (held_by heap.now seat.new sorts.new) place field result }
 {
     let _ = local;
     fields::read(heap, seat, sorts, place, field)
@@ -157,7 +168,8 @@ pub(crate) fn read_all(
 ) -> Result<[Value; 5], Code>
     requires owned { IsOwned heap.now seat.old sorts.old local.now }
     ensures owned { IsOwned heap.now seat.new sorts.new local.now }
-    ensures read { ReadsAllFields (held_by heap.now seat.old sorts.old) (held_by heap.now seat.new sorts.new) place five result }
+    ensures read { ReadsAllFields (held_by heap.now seat.old sorts.old)
+        (held_by heap.now seat.new sorts.new) place five result }
 {
     let _ = local;
     fields::read_all(heap, seat, sorts, place, five)
@@ -175,7 +187,8 @@ pub(crate) fn write(
 ) -> Code
     requires owned { IsOwned heap.now seat.old sorts.now local.now }
     ensures owned { IsOwned heap.now seat.new sorts.now local.now }
-    ensures wrote { WritesField (held_by heap.now seat.old sorts.now) (held_by heap.now seat.new sorts.now) place field val result }
+    ensures wrote { WritesField (held_by heap.now seat.old sorts.now)
+        (held_by heap.now seat.new sorts.now) place field val result }
 {
     let _ = local;
     fields::write(heap, seat, sorts, place, field, val)
@@ -194,7 +207,8 @@ pub(crate) fn swap(
 ) -> Code
     requires owned { IsOwned heap.now seat.old sorts.now local.now }
     ensures owned { IsOwned heap.now seat.new sorts.now local.now }
-    ensures swapped { SwapsField (held_by heap.now seat.old sorts.now) (held_by heap.now seat.new sorts.now) place field was now result }
+    ensures swapped { SwapsField (held_by heap.now seat.old sorts.now)
+        (held_by heap.now seat.new sorts.now) place field was now result }
 {
     let _ = local;
     fields::swap(heap, seat, sorts, place, field, was, now)
@@ -211,7 +225,8 @@ pub(crate) fn is_same(
 ) -> Result<bool, Code>
     requires owned { IsOwned heap.now seat.old sorts.now local.now }
     ensures owned { IsOwned heap.now seat.new sorts.now local.now }
-    ensures same { ComparesPlaces (held_by heap.now seat.old sorts.now) (held_by heap.now seat.new sorts.now) one other result }
+    ensures same { ComparesPlaces (held_by heap.now seat.old sorts.now)
+        (held_by heap.now seat.new sorts.now) one other result }
 {
     let _ = local;
     fields::is_same(heap, seat, sorts, one, other)

@@ -68,7 +68,8 @@ fn given(made: Result<HeapVal, Code>) -> HeapVal
 }
 
 fn get(mutator: &mut HeapMut, of: HeapVal, field: usize, out: &mut HeapVal) -> Code
-    ensures got { OfHandleOr (out.new ≡ out.old) (λ old new c. GivesGot of field out.old out.new old new c)
+    ensures got { OfHandleOr (out.new ≡ out.old)
+        (λ old new c. GivesGot of field out.old out.new old new c)
         mutator.old.mine mutator.new.mine result }
 {
     match mutator.mine() {
@@ -92,7 +93,8 @@ fn give_five(vals: [HeapVal; 5], out: &mut [HeapVal])
 }
 
 fn get_all(mutator: &mut HeapMut, of: HeapVal, out: &mut [HeapVal]) -> Code
-    ensures got { OfHandleOr (out.new ≡ out.old) (λ old new c. GivesAllGot of out.old out.new old new c)
+    ensures got { OfHandleOr (out.new ≡ out.old)
+        (λ old new c. GivesAllGot of out.old out.new old new c)
         mutator.old.mine mutator.new.mine result }
 {
     match mutator.mine() {
@@ -128,7 +130,8 @@ fn pop(mutator: &mut HeapMut, n: usize) -> Code
 }
 
 fn root(mutator: &mut HeapMut, i: usize, out: &mut HeapVal) -> Code
-    ensures told { OfHandleOr (out.new ≡ out.old) (λ old new c. GivesRoot i out.old out.new old new c)
+    ensures told { OfHandleOr (out.new ≡ out.old)
+        (λ old new c. GivesRoot i out.old out.new old new c)
         mutator.old.mine mutator.new.mine result }
 {
     match mutator.mine() {
@@ -187,8 +190,9 @@ pub extern "C" fn heap_get(
     field: usize,
     out: &mut HeapVal,
 ) -> i32
-    ensures got { Numbered result (OfHandleOr (out.new ≡ out.old) (λ old new c. GivesGot of field out.old out.new old new
-        c) mutator.old.mine mutator.new.mine) }
+    ensures got { Numbered result (OfHandleOr (out.new ≡ out.old)
+        (λ old new c. GivesGot of field out.old out.new old new c)
+        mutator.old.mine mutator.new.mine) }
 {
     get(mutator, of, field, out).number()
 }
@@ -196,8 +200,8 @@ pub extern "C" fn heap_get(
 /// Reads all its fields.
 #[unsafe(no_mangle)]
 pub extern "C" fn heap_get_all(mutator: &mut HeapMut, of: HeapVal, out: &mut [HeapVal]) -> i32
-    ensures got { Numbered result (OfHandleOr (out.new ≡ out.old) (λ old new c. GivesAllGot of out.old out.new old new
-        c) mutator.old.mine mutator.new.mine) }
+    ensures got { Numbered result (OfHandleOr (out.new ≡ out.old)
+        (λ old new c. GivesAllGot of out.old out.new old new c) mutator.old.mine mutator.new.mine) }
 {
     get_all(mutator, of, out).number()
 }
@@ -234,8 +238,8 @@ pub extern "C" fn heap_pop(mutator: &mut HeapMut, n: usize) -> i32
 /// A root, counted from the oldest.
 #[unsafe(no_mangle)]
 pub extern "C" fn heap_root(mutator: &mut HeapMut, i: usize, out: &mut HeapVal) -> i32
-    ensures told { Numbered result (OfHandleOr (out.new ≡ out.old) (λ old new c. GivesRoot i out.old out.new old new
-        c) mutator.old.mine mutator.new.mine) }
+    ensures told { Numbered result (OfHandleOr (out.new ≡ out.old)
+        (λ old new c. GivesRoot i out.old out.new old new c) mutator.old.mine mutator.new.mine) }
 {
     root(mutator, i, out).number()
 }

@@ -25,7 +25,8 @@ use sorted_boxes::{Sorts, coming, making, placing};
 pub(crate) fn begin(heap: &CellHeap<Rule>, seat: &mut MutSeat<Rule>, sorts: &Sorts) -> Code
     requires mine { IsMine heap.now seat.old sorts.now }
     ensures mine { IsMine heap.now seat.new sorts.now }
-    ensures begun { ComesIn (held_by heap.now seat.old sorts.now) (held_by heap.now seat.new sorts.now) result }
+    ensures begun { ComesIn (held_by heap.now seat.old sorts.now)
+        (held_by heap.now seat.new sorts.now) result }
 {
     let _ = sorts;
     if seat.is_in() {
@@ -40,7 +41,8 @@ pub(crate) fn end(heap: &CellHeap<Rule>, seat: &mut MutSeat<Rule>, sorts: &Sorts
     requires mine { IsMine heap.now seat.old sorts.now }
     ensures mine { IsMine heap.now seat.new sorts.now }
     ensures answer { result ≡ (if seat.old.me.presence.inside then code.Ok else code.NotIn) }
-    ensures ended { GoesOut (held_by heap.now seat.old sorts.now) (held_by heap.now seat.new sorts.now) result }
+    ensures ended { GoesOut (held_by heap.now seat.old sorts.now)
+        (held_by heap.now seat.new sorts.now) result }
 {
     let _ = sorts;
     if !seat.is_in() {
@@ -58,7 +60,8 @@ pub(crate) fn answer(heap: &CellHeap<Rule>, seat: &mut MutSeat<Rule>, sorts: &So
     ensures longer { length seat.old.me.known ≤ length seat.new.me.known }
     ensures inside { seat.new.me.presence.inside ≡ seat.old.me.presence.inside }
     ensures answer { result ≡ (if seat.old.me.presence.inside then code.Ok else code.NotIn) }
-    ensures answered { ReachesSafePoint (held_by heap.now seat.old sorts.now) (held_by heap.now seat.new sorts.now) result }
+    ensures answered { ReachesSafePoint (held_by heap.now seat.old sorts.now)
+        (held_by heap.now seat.new sorts.now) result }
 {
     let _ = sorts;
     if !seat.is_in() {
@@ -84,8 +87,8 @@ pub(crate) fn keep(
     ensures longer { (m : ℕ) → m ≤ n → m ≤ length seat.old.me.known
         → m ≤ length seat.new.me.known }
     ensures inside { seat.new.me.presence.inside ≡ seat.old.me.presence.inside }
-    ensures kept { KeepsChosen (held_by heap.now seat.old sorts.old) (held_by heap.now seat.new sorts.new) n place count
-        result }
+    ensures kept { KeepsChosen (held_by heap.now seat.old sorts.old)
+        (held_by heap.now seat.new sorts.new) n place count result }
 {
     if !seat.is_in() {
         return Code::NotIn;
@@ -139,7 +142,8 @@ pub(crate) fn make(
     ensures records { StillRecords seat.old.me.known seat.new.me.known }
     ensures longer { length seat.old.me.known ≤ length seat.new.me.known }
     ensures inside { seat.new.me.presence.inside ≡ seat.old.me.presence.inside }
-    ensures made { MakesCell (held_by heap.now seat.old sorts.old) (held_by heap.now seat.new sorts.new) vals.now result }
+    ensures made { MakesCell (held_by heap.now seat.old sorts.old)
+        (held_by heap.now seat.new sorts.new) vals.now result }
 {
     if !seat.is_in() {
         return Err(Code::NotIn);
@@ -178,8 +182,8 @@ pub(crate) fn make_at(
     ensures longer { (m : ℕ) → m ≤ first → m ≤ length seat.old.me.known
         → m ≤ length seat.new.me.known }
     ensures inside { seat.new.me.presence.inside ≡ seat.old.me.presence.inside }
-    ensures made { MakesAt (held_by heap.now seat.old sorts.old) (held_by heap.now seat.new sorts.new) first vals.now
-        result }
+    ensures made { MakesAt (held_by heap.now seat.old sorts.old)
+        (held_by heap.now seat.new sorts.new) first vals.now result }
 {
     if !seat.is_in() {
         return Code::NotIn;

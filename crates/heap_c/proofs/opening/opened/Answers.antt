@@ -14,5 +14,6 @@ new-requires-in-Ok c =
     record {
       keeping = new_left _ _ _ _ c.in-Ok.ensures.ok c.in_ok-heap.ensures.seat
           (ap (λ (s : Stack). s.cells) c.in_ok-stack.ensures.stack)
-          (ap (λ (h : Shape). h.setting) c.in_ok-heap.ensures.heap) (omega (arith, c.requires.some_boxes, c.from-setting.ensures));
+          (ap (λ (h : Shape). h.setting) c.in_ok-heap.ensures.heap)
+          (omega (arith, c.requires.some_boxes, c.from-setting.ensures));
     }

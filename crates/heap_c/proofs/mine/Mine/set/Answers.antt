@@ -9,4 +9,5 @@ returns-clause-set c =
     let code = c.set.result in
     subst (λ (old : Owned). SetsRoot old c.set.new.local c.args.i c.args.val code) c.self.view_is
     (subst (λ (heap : HeapId). SetsRoot (owned_by heap c.self.inside.seat c.self.inside.sorts
-    c.self.inside.local) c.set.new.local c.args.i c.args.val code) c.deref.ensures c.set.ensures.set)
+    c.self.inside.local) c.set.new.local c.args.i c.args.val code) c.deref.ensures
+    c.set.ensures.set)
