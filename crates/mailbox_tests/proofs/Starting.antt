@@ -4,6 +4,7 @@ use Rattle.std.proofs.Common.{Option, Some, None, Result, Ok, Err, IfOk, IfErr, 
 use Rattle.std.proofs.Common.{ap, subst, arith}
 use Rattle.std.proofs.lemmas.List.{length_push}
 use Rattle.cell_words.specs.declared.fields.Field.{Field}
+use Rattle.run_limits.specs.declared.TheConstants.{MOST_CLIENTS}
 use Rattle.core_machine.specs.declared.events.Event.TheVariants as event
 use Rattle.core_machine.specs.declared.events.Found.{Found}
 use Rattle.heap_table.specs.Opening.{Opens}
@@ -22,7 +23,7 @@ use Rattle.cell_mailbox.specs.Ends.{FindsEmpty, FindsFullHeap, Rests, Returns, S
 use Rattle.mailbox_tests.specs.Ready.{IsNew, IsReady}
 
 pub opens : (cells mutators setting : ℕ) (rows : List (List Field)) → rows ≡ first_rows
-    → mutators ≤ 64
+    → mutators ≤ MOST_CLIENTS
     → Opens opening_pass HoldsMail
     record { cells = cells; mutators = mutators; setting = setting; first = rows }
 opens cells mutators setting rows is some =

@@ -6,5 +6,6 @@ returns c =
     let told = c.begin.ensures.told in
     record {
       ready = ready_first c.args.heap.now c.args.seat c.args.number c.new-m.result
-          c.begin.new.self _ c.requires.new c.new-m.ensures.mutator told.1 c.begin.ensures.inside c.begin.ensures.held;
+          c.begin.new.self _ c.requires.new c.new-m.ensures.mutator told.1 c.begin.ensures.inside
+          c.begin.ensures.held;
     }
