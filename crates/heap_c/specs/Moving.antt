@@ -172,9 +172,9 @@ module _ (m later : Owned) (base records places : ℕ) where
       × ((records + length later.local.records ≤ later.local.room)
       × ((held_of later.held + places ≤ later.held.bound.seat.me.room)
       × ((later ≡ m) ⊎ (Ages m later ⊎ SharesFor m later base places code.Ok))))
-  MakesRoom code.Part = IsIn m.held
+  MakesRoom code.Part = IsIn m.held × ((records ≤ m.local.room)
       × ((Ages m later × (later.local.room < records + length later.local.records))
-      ⊎ SharesFor m later base places code.Part)
+      ⊎ SharesFor m later base places code.Part))
   MakesRoom code.BadSize = (m.local.room < records) × (later ≡ m)
   MakesRoom code.Spent = (m.local.turn ≡ 4294967295) × (later ≡ m)
   MakesRoom c = SharesFor m later base places c

@@ -346,8 +346,8 @@ fn share_for(
     }
 }
 
-/// Whether an ageing may come: no record has a copy, which would be lost, and no ageing came since
-/// the last sharing.
+/// Whether an ageing may come: no record has a copy, which would be lost, and none was kept by an
+/// ageing since the last sharing.
 fn may_age(copied: bool, local: &LocalRecords) -> bool
     requires noted { NotesCopies copied local.now }
     ensures none { OnTrue result (NoneMarked local.now.copied) }
