@@ -1,4 +1,5 @@
 use outside::{AfterGate, CrossGate, Gate, HoldGate, OpenGate};
+use run_limits::{MOST_CLIENTS, MOST_COMMANDS};
 use std::thread;
 
 // As many looks as no thread needs before it begins.
@@ -44,7 +45,7 @@ fn a_first_command_alone_is_late(rt: HostRuntime) {
 
 #[test]
 fn an_open_gate_lets_all_begin(rt: HostRuntime) {
-    for (client, number) in [(1, 1), (2, 1), (64, 100_000)] {
+    for (client, number) in [(1, 1), (2, 1), (MOST_CLIENTS, MOST_COMMANDS)] {
         assert!(rt;
             OpenGate.go(client, number),
             "client {client}, command {number}"

@@ -77,7 +77,8 @@ module _ (m a b : Bound Pass) (v : HeldVersion) (latest : GivesLatest m a v)
       ∙ sym (root_known (known_of b.seat.me v.place) v.number latest.held.root
       version_there.known)
 
-  module _ (c : Bound Pass) (nodes : ℕ) (lasts : LastsAcross m a) (then : LastsAcross a b) (last : LastsAcross b c)
+  module _ (c : Bound Pass) (nodes : ℕ) (lasts : LastsAcross m a) (then : LastsAcross a b)
+      (last : LastsAcross b c)
       (same : IsSameMutator m a) (alike : IsSameMutator a b) (still : IsSameMutator b c)
       (counted : nodes ≡ count (tree_of (root_at b v.place)))
       (again : c.seat.me.pass

@@ -17,7 +17,8 @@ use Rattle.doc_export.specs.Lines.{path_behind, tree_lines, with_slash}
 
 -- the names after the first child's are looked for after it
 behind_first : (before m text : List ℕ) (inside rest kids : Kids) → IsAbove m kids
-    → lines_of before (kid m text inside rest) (names_of kids) ≡ lines_of before rest (names_of kids)
+    → lines_of before (kid m text inside rest) (names_of kids)
+    ≡ lines_of before rest (names_of kids)
 behind_first before m text inside rest no_kids above = refl
 behind_first before m text inside rest (kid n other below more) above =
     let first : child n (kid m text inside rest) ≡ child n rest =

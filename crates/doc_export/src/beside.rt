@@ -5,6 +5,7 @@ ghost use Rattle.client_threads.specs.Clients.{AllDone, IsDone, IsReady};
 ghost use Rattle.doc_export.specs.Guests.{IsThrough, IsWaiting};
 ghost use Rattle.doc_export.specs.Workers.{AllReady, HaveWorked};
 ghost use Rattle.std.specs.Thread.{IsSync};
+ghost use Rattle.run_limits.specs.declared.TheConstants.{MOST_COMMANDS};
 
 use crate::ending::Ending;
 use crate::guest::{Copied, Guest, Through, take_version};
@@ -33,7 +34,7 @@ fn run_clients<R: Threads + Wait + Sync, G: Gate + Sync>(
     clients: Vec<Worker<Documents, Client>>,
 ) -> Vec<Worker<Documents, Client>>
     requires few { length clients.items ≤ 4_294_967_295 }
-    requires short { All (λ script. length script.items ≤ 100_000) scripts.now }
+    requires short { All (λ script. length script.items ≤ MOST_COMMANDS) scripts.now }
     requires keep { heap.now.shape.setting ≡ limits.keep }
     requires ready { AllReady heap.now queue.now limits clients.items }
     ensures done { AllDone heap.now limits scripts.now result.items }
@@ -42,7 +43,7 @@ fn run_clients<R: Threads + Wait + Sync, G: Gate + Sync>(
 {
     let each = move |number: u32, client: Worker<Documents, Client>| -> Worker<Documents, Client>
         requires { (heap.now.shape.setting ≡ limits.keep)
-            × (length (script_of scripts.now number) ≤ 100_000)
+            × (length (script_of scripts.now number) ≤ MOST_COMMANDS)
             × IsReady heap.now queue.now limits number client }
         ensures { IsDone heap.entry.now limits scripts.entry.now number result }
     {
@@ -67,7 +68,7 @@ pub(crate) fn run_with_guest<R: Threads + Wait + Sync, G: Ending + Sync>(
     minor: MinorHeap,
 ) -> (Vec<Worker<Documents, Client>>, Option<Copied>)
     requires few { length scripts.now ≤ 63 }
-    requires short { All (λ script. length script.items ≤ 100_000) scripts.now }
+    requires short { All (λ script. length script.items ≤ MOST_COMMANDS) scripts.now }
     requires keep { heap.now.shape.setting ≡ limits.keep }
     requires minor { LEAST_MINOR ≤ limits.minor }
     requires ready { AllReady heap.now queue.now limits workers.items }
@@ -84,12 +85,13 @@ pub(crate) fn run_with_guest<R: Threads + Wait + Sync, G: Ending + Sync>(
     let (through, clients) = join(
         rt,
         move || -> Through
-            requires { (LEAST_MINOR ≤ limits.minor) × IsWaiting heap.now limits guest.place guest.seat }
+            requires { (LEAST_MINOR ≤ limits.minor)
+                × IsWaiting heap.now limits guest.place guest.seat }
             ensures { IsThrough heap.entry.now limits guest.place result }
         { take_version(alloc, rt, gate, heap, limits, guest) },
         move || -> Vec<Worker<Documents, Client>>
             requires { IsSync R.row × IsSync G.row × (length clients.items ≤ 4_294_967_295)
-                × All (λ script. length script.items ≤ 100_000) scripts.now
+                × All (λ script. length script.items ≤ MOST_COMMANDS) scripts.now
                 × (heap.now.shape.setting ≡ limits.keep)
                 × AllReady heap.now queue.now limits clients.items }
             ensures { AllDone heap.entry.now limits scripts.entry.now result.items

@@ -8,9 +8,10 @@
 //! history has after it.
 //!
 //! The dump itself (`dumping`) is of a version that a mutator holds. What was held and known is as
-//! before, and the mutator looked for a handshake at least once for each node, after it has read the
-//! node's text and before it adds the node's line. From the root down, one place is held for each
-//! node on the path to the current one, at most nine; the readers of a node use more while they run.
+//! before, and the mutator looked for a handshake at least once for each node, after it has read
+//! the node's text and before it adds the node's line. From the root down, one place is held for
+//! each node on the path to the current one, at most nine; the readers of a node use more while
+//! they run.
 //!
 //! Reading order: `fault`, `lines`, specs/Lines; specs/Still, Looks, Walks, `walking`;
 //! specs/Outcome, `dumping`; `dumped`, specs/Dumps; `ending`, `waiting`; specs/Guests, `guest`;

@@ -11,6 +11,7 @@ ghost use Rattle.client_threads.specs.Taken.{commands_in, lists_of};
 ghost use Rattle.doc_export.specs.Parts.{IsOpened, MayDump};
 ghost use Rattle.doc_export.specs.Workers.{AllReady, HaveWorked};
 ghost use Rattle.std.specs.Thread.{IsSync};
+ghost use Rattle.run_limits.specs.declared.TheConstants.{MOST_COMMANDS};
 
 use crate::beside::run_with_guest;
 use crate::ending::Ending;
@@ -57,7 +58,7 @@ pub(crate) fn open_run<R: Threads + Wait + Sync>(
 ) -> Result<Opened, NoMemory>
     requires some { 1 ≤ length scripts.now }
     requires few { length scripts.now ≤ 63 }
-    requires short { All (λ script. length script.items ≤ 100_000) scripts.now }
+    requires short { All (λ script. length script.items ≤ MOST_COMMANDS) scripts.now }
     requires options { IsWithin options.now }
     ensures opened { IfOk result (λ made. IsOpened options.now scripts.now made) }
 {
@@ -84,7 +85,7 @@ pub(crate) fn run_opened<R: Threads + Wait + Sync, G: Ending + Sync>(
     logs: Vec<Log>,
 ) -> Closed
     requires some { 1 ≤ length scripts.now }
-    requires short { All (λ script. length script.items ≤ 100_000) scripts.now }
+    requires short { All (λ script. length script.items ≤ MOST_COMMANDS) scripts.now }
     requires options { IsWithin options.now }
     requires opened { IsOpened options.now scripts.now opened }
     requires empty { logs.items ≡ [] }
@@ -111,7 +112,7 @@ pub(crate) fn run_opened<R: Threads + Wait + Sync, G: Ending + Sync>(
     let hints = &queue;
     let run = move || -> (Vec<Worker<Documents, Client>>, Option<Copied>)
         requires { IsSync R.row × IsSync G.row × (length scripts.now ≤ 63)
-            × All (λ script. length script.items ≤ 100_000) scripts.now
+            × All (λ script. length script.items ≤ MOST_COMMANDS) scripts.now
             × (at.now.shape.setting ≡ limits.keep) × (LEAST_MINOR ≤ limits.minor)
             × AllReady at.now hints.now limits workers.items
             × (length workers.items ≡ length scripts.now + 1) }

@@ -3,6 +3,7 @@ ghost use Rattle.std.specs.Prelude.{◌≤◌, All, IfOk, length};
 ghost use Rattle.client_run.specs.Options.{IsWithin};
 ghost use Rattle.client_threads.specs.Taken.{lists_of};
 ghost use Rattle.doc_export.specs.Dumps.{Dumps};
+ghost use Rattle.run_limits.specs.declared.TheConstants.{MOST_COMMANDS};
 
 use crate::dumped::Dumped;
 use crate::ending::EndingGate;
@@ -36,7 +37,7 @@ pub fn dump_run<R: Threads + Wait + Sync, G: Gate + Sync>(
 ) -> Result<Dumped, NoMemory>
     requires some { 1 ≤ length scripts.now }
     requires few { length scripts.now ≤ 63 }
-    requires short { All (λ script. length script.items ≤ 100_000) scripts.now }
+    requires short { All (λ script. length script.items ≤ MOST_COMMANDS) scripts.now }
     requires options { IsWithin options.now }
     ensures { IfOk result (λ d. Dumps options.now (lists_of scripts.now) d.logs.items d.passes
         d.version d.count d.bytes) }

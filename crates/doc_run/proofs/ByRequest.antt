@@ -11,9 +11,9 @@ use Rattle.command_line.specs.declared.request.Request.{Request}
 use Rattle.command_line.specs.declared.request.WordsFault.{WordsFault}
 use Rattle.command_line.specs.declared.request.WordsFault.TheVariants as words_fault
 use Rattle.command_line.specs.declared.request.GenWords.{GenWords}
+use Rattle.run_limits.specs.declared.TheConstants.{MOST_COMMANDS}
 use Rattle.script_files.proofs.Opens.{stops_none}
 use Rattle.script_files.specs.Fault.{status_by}
-use Rattle.script_files.specs.InTurn.{most_commands}
 use Rattle.script_files.specs.Mail.{mail_of, parse_mail}
 use Rattle.script_files.specs.Scripts.{parse_script, scripts_of}
 use Rattle.script_files.specs.Sorts.{Grammar, OfMail, OfScripts, Refused, Sort, sort_of}
@@ -168,7 +168,7 @@ module _ (holds : List ℕ → Option (List ℕ)) where
   replies_in (Some (Mail mail)) answer result Wrote is back wrote = tt
 
   made_answered : (made : GenWords) (status : ℕ) → (status ≡ 0) ⊎ (status ≡ 4)
-      → made.clients * made.commands ≤ most_commands → IsMadeDue made status
+      → made.clients * made.commands ≤ MOST_COMMANDS → IsMadeDue made status
   made_answered made status ends few = record {
     large = (
       (λ six. absurd (elim ends [
@@ -326,7 +326,7 @@ module _ (holds : List ℕ → Option (List ℕ)) where
   leaves (Some (Mail mail)) dumped fault is = inl is.1
 
   made_refused : (made : GenWords) (fault : Fault)
-      → ((fault ≡ TooLarge 0) × (most_commands < made.clients * made.commands))
+      → ((fault ≡ TooLarge 0) × (MOST_COMMANDS < made.clients * made.commands))
       ⊎ (fault ≡ Memory) → IsMadeDue made (status_by (sort_of fault))
   made_refused made fault is = elim is [
     | inl e ↦

@@ -9,8 +9,8 @@ use Rattle.doc_export.specs.declared.dumped.Dumped.{Dumped}
 use Rattle.doc_model.specs.declared.command.Command.{Command}
 use Rattle.command_line.specs.Requests.{Asked, Dump, Gen, Mail, MailAsked, RunAsked}
 use Rattle.command_line.specs.declared.request.GenWords.{GenWords}
+use Rattle.run_limits.specs.declared.TheConstants.{MOST_COMMANDS}
 use Rattle.script_files.specs.Formed.{AreRead}
-use Rattle.script_files.specs.InTurn.{most_commands}
 use Rattle.script_files.specs.Mail.{IsMail}
 use Rattle.script_files.specs.Scripts.{AreScripts}
 use Rattle.script_files.specs.Sorts.{OfMail, OfScripts, Refused, sort_of}
@@ -139,7 +139,7 @@ module _ (holds : List ℕ → Option (List ℕ)) where
 
   -- generated scripts
   pub made_ran : (made : GenWords) (text : Vec ℕ Global) (f : Finished)
-      → made.clients * made.commands ≤ most_commands → made.print ≡ None
+      → made.clients * made.commands ≤ MOST_COMMANDS → made.print ≡ None
       → IsRunGiven (IsMade made) default_options f → IsSummaryOf made f text.items
       → Answers holds (Some (Gen made)) (came.Ran text f)
   made_ran made text f few none comes said = (
@@ -148,7 +148,7 @@ module _ (holds : List ℕ → Option (List ℕ)) where
   )
 
   pub made_printed : (made : GenWords) (client : ℕ) (text : Vec ℕ Global)
-      → made.clients * made.commands ≤ most_commands → made.print ≡ Some client
+      → made.clients * made.commands ≤ MOST_COMMANDS → made.print ≡ Some client
       → text.items ≡ printed_of made client → Answers holds (Some (Gen made)) (came.Text text)
   made_printed made client text few one is = (
     few,
@@ -158,7 +158,7 @@ module _ (holds : List ℕ → Option (List ℕ)) where
   pub made_wants : (made : GenWords) → IsRefusedBy holds (Some (Gen made)) None Memory
   made_wants made = (inr refl, refl)
 
-  pub made_large : (made : GenWords) → most_commands < made.clients * made.commands
+  pub made_large : (made : GenWords) → MOST_COMMANDS < made.clients * made.commands
       → IsRefusedBy holds (Some (Gen made)) None (TooLarge 0)
   made_large made many = (inl (refl, many), refl)
 

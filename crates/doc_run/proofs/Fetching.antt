@@ -14,9 +14,9 @@ use Rattle.outside.specs.Causes.{Rose, next_count}
 use Rattle.outside.specs.declared.course.Course.{Course}
 use Rattle.command_line.specs.Requests.{Asked, Gen, Run, RunAsked}
 use Rattle.command_line.specs.declared.request.GenWords.{GenWords}
+use Rattle.run_limits.specs.declared.TheConstants.{MOST_COMMANDS}
 use Rattle.script_files.specs.Fault.{status_of}
 use Rattle.script_files.specs.Files.{OpensInTurn, opened}
-use Rattle.script_files.specs.InTurn.{most_commands}
 use Rattle.script_files.specs.Sorts.{Refused, sort_of}
 use Rattle.script_files.specs.declared.fault.Fault.{Fault}
 use Rattle.script_files.specs.declared.fault.Fault.TheVariants.{Memory, ReadFault, TooLarge}
@@ -292,7 +292,7 @@ module _ (holds : List ℕ → Option (List ℕ)) (limit opens calls faults : �
 
   -- generated scripts name none
   made_fault : (made : GenWords) (fault : Fault) (file : ℕ)
-      → ((fault ≡ TooLarge 0) × (most_commands < made.clients * made.commands))
+      → ((fault ≡ TooLarge 0) × (MOST_COMMANDS < made.clients * made.commands))
       ⊎ (fault ≡ Memory) → fault ≡ ReadFault file → ⊥
   made_fault made fault file is one = elim is [
     | inl e ↦ let large = e.0 in cc

@@ -11,6 +11,7 @@ use Rattle.command_line.specs.Limits.{IsRunWithin}
 use Rattle.command_line.specs.Requests.{run_asked_by}
 use Rattle.command_line.specs.declared.request.RunWords.{RunWords}
 use Rattle.doc_run.specs.Clients.{default_options, options_of}
+use Rattle.run_limits.specs.declared.TheConstants.{MOST_COMMANDS}
 
 -- the options of a run
 pub options_within : (run : RunWords) → IsRunWithin run
@@ -35,12 +36,12 @@ default_within = record {
 
 -- each of the scripts is short, since all of them are
 pub each_short : (scripts : List (Vec Command Global))
-    → sum_by (λ script. length script.items) scripts ≤ 100000
-    → All (λ script. length script.items ≤ 100000) scripts
-each_short [] short = All-nil (λ (s : Vec Command Global). length s.items ≤ 100000)
+    → sum_by (λ script. length script.items) scripts ≤ MOST_COMMANDS
+    → All (λ script. length script.items ≤ MOST_COMMANDS) scripts
+each_short [] short = All-nil (λ (s : Vec Command Global). length s.items ≤ MOST_COMMANDS)
 each_short (script ∷ scripts) short =
     let sum = sum_by-cons (λ (s : Vec Command Global). length s.items) script scripts in
-    All-cons (λ (s : Vec Command Global). length s.items ≤ 100000) script scripts
+    All-cons (λ (s : Vec Command Global). length s.items ≤ MOST_COMMANDS) script scripts
     (omega (arith, sum, short)) (each_short scripts (omega (arith, sum, short)))
 
 pub ruleset ranges = (options_within, default_within)

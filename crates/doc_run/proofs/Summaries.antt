@@ -15,6 +15,7 @@ use Rattle.doc_model.specs.declared.command.Entry.{Entry}
 use Rattle.result_text.specs.Summary.{summary_text_of}
 use Rattle.result_text.specs.declared.summary.Made.{Made}
 use Rattle.command_line.specs.declared.request.GenWords.{GenWords}
+use Rattle.run_limits.specs.declared.TheConstants.{MOST_COMMANDS}
 use Rattle.script_files.proofs.Counting.{scripts_few, scripts_length, texts_length}
 use Rattle.script_files.specs.Made.{texts_from}
 use Rattle.store_run.specs.Answered.{commands_of}
@@ -46,11 +47,11 @@ entries_of_logs logs scripts is = subst
 -- a merged history is not too long to be looked at
 few_entries : (made : GenWords) (f : Finished) (merged : List Entry)
     → IsRunGiven (IsMade made) default_options f → IsMerge f.logs.items merged
-    → length merged ≤ 100000
+    → length merged ≤ MOST_COMMANDS
 few_entries made f merged comes is =
     let logs = f.logs.items in
     let texts = texts_from made.start made.commands 1 made.clients in
-    let few : 0 + sum_by length comes.0 ≤ 100000 =
+    let few : 0 + sum_by length comes.0 ≤ MOST_COMMANDS =
     scripts_few 1 0 texts comes.0 (omega arith) comes.1 in
     omega (
       arith,
@@ -91,10 +92,10 @@ is_summary made f merged legal numbers text comes is looked same said =
 pub few_looked : (made : GenWords) (f : Finished) (logs : List ClientLog)
     (merged looked : List Entry) → IsRunGiven (IsMade made) default_options f
     → logs ≡ f.logs.items → IsMerge logs merged → looked ≡ merged
-    → length looked ≤ 100000
+    → length looked ≤ MOST_COMMANDS
 few_looked made f logs merged looked comes lent is same =
     let few = few_entries made f merged comes (subst (λ l. IsMerge l merged) lent is) in
-    subst (λ l. length l ≤ 100000) (sym same) few
+    subst (λ l. length l ≤ MOST_COMMANDS) (sym same) few
 
 pub summary_told : (made : GenWords) (f : Finished) (logs : List ClientLog)
     (merged looked written : List Entry) (legal : Bool) (numbers : Made) (text : List ℕ)

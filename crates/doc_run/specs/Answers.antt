@@ -3,14 +3,14 @@
 -- What the named files hold is told or not, file by file. Where it is not told, a line speaks of
 -- some bytes that a file may have held.
 -- Source: this project's own.
-use Rattle.std.specs.Prelude.{◌≡◌, ℕ, ◌*◌, ◌≤◌, ◌<◌, List, [], Option, None, Some, IsNone, IsSomeAnd}
-use Rattle.std.specs.Prelude.{IsSome, Result, Ok, Err, ◌⊎◌, map, Vec}
+use Rattle.std.specs.Prelude.{◌≡◌, ℕ, ◌*◌, ◌≤◌, ◌<◌, List, [], Option, None, Some, IsNone, IsSome}
+use Rattle.std.specs.Prelude.{IsSomeAnd, Result, Ok, Err, ◌⊎◌, map, Vec}
 use Rattle.std.specs.declared.alloc.Global.{Global}
 use Rattle.doc_export.specs.declared.dumped.Dumped.{Dumped}
 use Rattle.mail_run.specs.declared.finished.MailRun.{MailRun}
 use Rattle.command_line.specs.Requests.{Asked, Run, Replay, Gen, Load, Image, Dump, Census, Mail}
 use Rattle.command_line.specs.declared.request.GenWords.{GenWords}
-use Rattle.script_files.specs.InTurn.{most_commands}
+use Rattle.run_limits.specs.declared.TheConstants.{MOST_COMMANDS}
 use Rattle.script_files.specs.Mail.{IsMail}
 use Rattle.script_files.specs.Scripts.{AreScripts}
 use Rattle.script_files.specs.Sorts.{OfMail, OfScripts, Refused, sort_of}
@@ -116,7 +116,7 @@ Answers holds (Some (Run run)) answer = OfRun answer (λ f text.
     × AreReplies (map holds run.files) run f text)
 Answers holds (Some (Replay name)) answer = OfText answer (IsAnswerOf Schedules (holds name))
 Answers holds (Some (Gen made)) answer =
-    (made.clients * made.commands ≤ most_commands) × AnswersMade made made.print answer
+    (made.clients * made.commands ≤ MOST_COMMANDS) × AnswersMade made made.print answer
 Answers holds (Some (Load name)) answer = OfText answer (IsAnswerOf Dumps (holds name))
 Answers holds (Some (Image run)) answer = OfRun answer (λ f text.
     IsRunGiven (AreScripts (map holds run.files)) (options_of run) f × IsHeapText f.image text)
@@ -147,7 +147,7 @@ IsRefusedBy holds (Some (Run run)) dumped fault =
 IsRefusedBy holds (Some (Replay name)) dumped fault =
     RefusesFile Schedules (holds name) dumped fault
 IsRefusedBy holds (Some (Gen made)) dumped fault =
-    (((fault ≡ TooLarge 0) × (most_commands < made.clients * made.commands)) ⊎ (fault ≡ Memory))
+    (((fault ≡ TooLarge 0) × (MOST_COMMANDS < made.clients * made.commands)) ⊎ (fault ≡ Memory))
     × IsNone dumped
 IsRefusedBy holds (Some (Load name)) dumped fault = RefusesFile Dumps (holds name) dumped fault
 IsRefusedBy holds (Some (Image run)) dumped fault =

@@ -4,6 +4,7 @@
 -- fact of the scripts, or of the fault in their place.
 -- Source: this project's own.
 use Rattle.std.specs.Prelude.{◌≡◌, ℕ, List, Option, Result, Ok, Err}
+use Rattle.cell_words.specs.declared.controls.TheConstants.{GREATEST_CYCLES}
 use Rattle.client_run.specs.declared.options.Options.{Options}
 use Rattle.cmd_text.specs.declared.form.Form.{Form}
 use Rattle.doc_model.specs.declared.command.Command.{Command}
@@ -36,7 +37,7 @@ default_options = record {
   minor = 8_192;
   keep = 8;
   versions = 1_000_000;
-  cycles = 4_000_000_000;
+  cycles = GREATEST_CYCLES;
 }
 
 -- this is what a run of these scripts came to

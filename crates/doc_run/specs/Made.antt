@@ -6,7 +6,7 @@ use Rattle.doc_model.specs.declared.command.Entry.{Entry}
 use Rattle.result_text.specs.Summary.{summary_text_of}
 use Rattle.result_text.specs.declared.summary.Made.{Made}
 use Rattle.command_line.specs.declared.request.GenWords.{GenWords}
-use Rattle.script_files.specs.InTurn.{most_commands}
+use Rattle.run_limits.specs.declared.TheConstants.{MOST_COMMANDS}
 use Rattle.script_files.specs.Generated.{generated_of}
 use Rattle.store_run.specs.declared.finished.Finished.{Finished}
 
@@ -31,7 +31,7 @@ printed_of made client = generated_of made.start client made.commands
 -- the status is that which the numbers call for
 pub record IsMadeDue (made : GenWords) (status : ℕ) : Type 0 where
   -- refused for too many commands
-  pub large : (status ≡ 6) ↔ ((status ≢ 5) × (most_commands < made.clients * made.commands))
+  pub large : (status ≡ 6) ↔ ((status ≢ 5) × (MOST_COMMANDS < made.clients * made.commands))
   -- not refused: done, or the output could not be written, or memory was wanting
-  pub complete : made.clients * made.commands ≤ most_commands
+  pub complete : made.clients * made.commands ≤ MOST_COMMANDS
       → (status ≡ 0) ⊎ (status ≡ 4) ⊎ (status ≡ 5)

@@ -6,8 +6,10 @@ ghost use Rattle.doc_run.specs.Guested.{DecidesDump, FinishesDump};
 ghost use Rattle.doc_run.specs.Reads.{Reads, err_of};
 ghost use Rattle.command_line.specs.Limits.{IsGenWithin, IsRunWithin};
 ghost use Rattle.command_line.specs.Requests.{Dump, Run, names_by, run_asked_by};
+ghost use Rattle.run_limits.specs.declared.TheConstants.{MOST_COMMANDS};
 ghost use Rattle.script_files.specs.Reading.{lists_of};
 
+use cell_words::GREATEST_CYCLES;
 use cmd_text::Form;
 use command_line::{GenWords, RunWords};
 use doc_export::{Dumped, dump_run};
@@ -25,7 +27,7 @@ const DEFAULTS: Options = Options {
     minor: 8_192,
     keep: 8,
     versions: 1_000_000,
-    cycles: 4_000_000_000,
+    cycles: GREATEST_CYCLES,
 };
 
 /// What a run of the clients of files came to, and the form of each client's texts.
@@ -89,7 +91,7 @@ pub fn run_made<R: Threads + Wait + Sync, G: Gate + Sync>(
     gate: &G,
 ) -> Result<Finished, Fault>
     requires within { IsGenWithin made }
-    requires few { made.clients * made.commands ≤ 100_000 }
+    requires few { made.clients * made.commands ≤ MOST_COMMANDS }
     ensures finished { MakesRun made result }
 {
     match scripts_made(alloc, made.start, made.clients, made.commands) {
@@ -121,7 +123,7 @@ fn run_formed<R: Threads + Wait + Sync, G: Gate + Sync>(
 ) -> Result<Ran, Fault>
     requires some { 1 ≤ length scripts.commands.items }
     requires few { length scripts.commands.items ≤ 64 }
-    requires total { sum_by (λ script. length script.items) scripts.commands.items ≤ 100_000 }
+    requires total { sum_by (λ script. length script.items) scripts.commands.items ≤ MOST_COMMANDS }
     requires options { IsWithin options }
     ensures { FinishesWith options (lists_of scripts.commands.items) scripts.forms.items result }
 {
@@ -143,7 +145,7 @@ fn run_all<R: Threads + Wait + Sync, G: Gate + Sync>(
 ) -> Result<Finished, Fault>
     requires some { 1 ≤ length scripts.now }
     requires few { length scripts.now ≤ 64 }
-    requires total { sum_by (λ script. length script.items) scripts.now ≤ 100_000 }
+    requires total { sum_by (λ script. length script.items) scripts.now ≤ MOST_COMMANDS }
     requires options { IsWithin options }
     ensures { Finishes options (lists_of scripts.now) result }
 {
@@ -163,7 +165,7 @@ fn dump_all<R: Threads + Wait + Sync, G: Gate + Sync>(
 ) -> Result<Dumped, Fault>
     requires some { 1 ≤ length scripts.now }
     requires few { length scripts.now ≤ 63 }
-    requires total { sum_by (λ script. length script.items) scripts.now ≤ 100_000 }
+    requires total { sum_by (λ script. length script.items) scripts.now ≤ MOST_COMMANDS }
     ensures { FinishesDump (lists_of scripts.now) result }
 {
     match dump_run(alloc, rt, scripts, &DEFAULTS, gate) {

@@ -3,6 +3,7 @@ ghost use Rattle.std.specs.Prelude.{◌≡◌, ℕ, ◌*◌, ◌≤◌, List, Op
 ghost use Rattle.doc_run.specs.Answers.{Decided};
 ghost use Rattle.command_line.specs.Limits.{IsGenWithin};
 ghost use Rattle.command_line.specs.Requests.{Gen};
+ghost use Rattle.run_limits.specs.declared.TheConstants.{MOST_COMMANDS};
 
 use crate::answer::{Answer, Refusal};
 use crate::clients::run_made;
@@ -36,7 +37,7 @@ pub fn run_generated<R: Threads + Wait + Sync, G: Gate + Sync>(
 // The script of this client.
 fn print_script(alloc: Global, made: GenWords, client: u32) -> Result<Answer, Refusal>
     requires within { IsGenWithin made }
-    requires few { made.clients * made.commands ≤ 100_000 }
+    requires few { made.clients * made.commands ≤ MOST_COMMANDS }
     requires client { (1 ≤ client) × (client ≤ 64) }
     requires print { made.print ≡ Some client }
     ensures decided { (holds : List ℕ → Option (List ℕ)) → Decided holds (Some (Gen made)) result }
@@ -55,7 +56,7 @@ fn run_scripts<R: Threads + Wait + Sync, G: Gate + Sync>(
     gate: &G,
 ) -> Result<Answer, Refusal>
     requires within { IsGenWithin made }
-    requires few { made.clients * made.commands ≤ 100_000 }
+    requires few { made.clients * made.commands ≤ MOST_COMMANDS }
     requires none { made.print ≡ None }
     ensures decided { (holds : List ℕ → Option (List ℕ)) → Decided holds (Some (Gen made)) result }
 {

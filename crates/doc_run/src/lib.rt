@@ -12,8 +12,8 @@
 //!
 //! A request comes to an answer, with its text, or is refused; and one place writes.
 //!
-//! Reading order: `words`, `outcome`, `answer`, specs/Answers, `clients`, `report`, `summary`; then a
-//! file for each kind of request, `scripts`, `beside`, `generated`, `mailing` and `reading`; then
+//! Reading order: `words`, `outcome`, `answer`, specs/Answers, `clients`, `report`, `summary`; then
+//! a file for each kind of request, `scripts`, `beside`, `generated`, `mailing` and `reading`; then
 //! `requests`, `writing` and `whole_run`.
 #![tactic(auto)]
 

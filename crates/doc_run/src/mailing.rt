@@ -1,10 +1,13 @@
 //! A run of a mailbox: the values of the files' scripts are sent and received.
 ghost use Rattle.std.specs.Prelude.{◌≤◌, ◌<◌, ◌^◌, All, IfOk, Some, length, map, sum_by};
+ghost use Rattle.cell_words.specs.declared.controls.TheConstants.{GREATEST_CYCLES};
+ghost use Rattle.cell_words.specs.declared.controls.TheConstants.{GREATEST_POSITION};
 ghost use Rattle.doc_run.specs.Answers.{Decided, refusal_of};
 ghost use Rattle.doc_run.specs.Mailed.{DecidesMailRun, FinishesMail, IsMailedText};
 ghost use Rattle.doc_run.specs.Reads.{Reads, err_of};
 ghost use Rattle.command_line.specs.Limits.{IsMailWithin};
 ghost use Rattle.command_line.specs.Requests.{Mail, mail_asked_by};
+ghost use Rattle.run_limits.specs.declared.TheConstants.{MOST_COMMANDS};
 ghost use Rattle.script_files.specs.Mail.{values_of};
 
 use crate::answer::{Answer, Refusal};
@@ -79,10 +82,10 @@ fn mail_all<R: Threads + Wait + Sync>(
 ) -> Result<MailRun, Fault>
     requires some { 1 ≤ length scripts.now }
     requires few { length scripts.now ≤ 63 }
-    requires total { sum_by (λ script. length script.items) scripts.now ≤ 100_000 }
+    requires total { sum_by (λ script. length script.items) scripts.now ≤ MOST_COMMANDS }
     requires small { All (λ script. All (λ value. value < 2 ^ 32) script.items) scripts.now }
-    requires cells { (64 ≤ cells) × (cells ≤ 4_194_304) }
-    requires cycles { cycles ≤ 4_000_000_000 }
+    requires cells { (64 ≤ cells) × (cells ≤ GREATEST_POSITION) }
+    requires cycles { cycles ≤ GREATEST_CYCLES }
     ensures { FinishesMail cells cycles (values_of scripts.now) result }
 {
     match mail_run(alloc, rt, scripts, cells, cycles) {

@@ -3,6 +3,7 @@ ghost use Rattle.std.specs.Prelude.{◌≡◌, ◌*◌, ◌≤◌, IfOk};
 ghost use Rattle.doc_run.specs.Clients.{IsRunGiven, IsMade, default_options};
 ghost use Rattle.doc_run.specs.Made.{IsSummaryOf, numbers_of};
 ghost use Rattle.command_line.specs.Limits.{IsGenWithin};
+ghost use Rattle.run_limits.specs.declared.TheConstants.{MOST_COMMANDS};
 
 use command_line::GenWords;
 use doc_model::{NoMemory, is_legal, merge};
@@ -18,7 +19,7 @@ const VERSIONS: u32 = 1_000_000;
 /// The summary of what a run of generated scripts came to.
 pub fn summary_of(alloc: Global, made: GenWords, finished: &Finished) -> Result<Vec<u8>, NoMemory>
     requires within { IsGenWithin made }
-    requires few { made.clients * made.commands ≤ 100_000 }
+    requires few { made.clients * made.commands ≤ MOST_COMMANDS }
     requires comes { IsRunGiven (IsMade made) default_options finished.now }
     ensures text { IfOk result (λ text. IsSummaryOf made finished.now text.items) }
 {

@@ -20,7 +20,7 @@ ghost use Rattle.trails.specs.Claims.{AllUsed, FindsFull, begun_of, decides};
 use crate::full::HeapFull;
 use crate::looking::{answer, look_once};
 use crate::mutator::Mutator;
-use cell_words::{Control, GREATEST_CYCLES, Stage};
+use cell_words::{Control, Stage};
 use free_cells::Hints;
 use heap_rule::Keeping;
 use heap_table::CellHeap;
@@ -33,9 +33,9 @@ const PATIENCE: u32 = 1000;
 
 /// The cycles that are ended or under way.
 pub fn begun(control: Control) -> u32
-    requires few { control.cycles ≤ GREATEST_CYCLES }
+    requires few { control.cycles ≤ 4000000000 }
     ensures begun { result ≡ begun_of control }
-    ensures few { result ≤ GREATEST_CYCLES + 1 }
+    ensures few { result ≤ 4000000001 }
 {
     let ended = control.cycles;
     match control.stage {
@@ -51,7 +51,7 @@ pub fn begun(control: Control) -> u32
 /// Whether waiting is of no more use: the collector is off duty, or two whole cycles began and
 /// ended since so many were begun.
 pub fn decides(began: u32, control: Control) -> bool
-    requires few { began ≤ GREATEST_CYCLES + 1 }
+    requires few { began ≤ 4000000001 }
     ensures decides { result ≡ decides began control }
 {
     !control.duty || began + 2 <= control.cycles
@@ -147,7 +147,7 @@ impl<'a, P: Keeping> Mutator<'a, P> {
     ) -> Result<usize, HeapFull>
         requires inside { self.old.seat.me.presence.inside ≡ true }
         requires room { length self.old.seat.me.own.held < self.old.seat.me.room }
-        requires few { began ≤ GREATEST_CYCLES + 1 }
+        requires few { began ≤ 4000000001 }
         ensures got { IfOk result (λ place. Claimed self.old place self.new) }
         ensures full { IfErr result (λ full.
             Calm (FullBehind self.old.seat.me.number self.old.seat.me.shape.cells

@@ -13,7 +13,7 @@ ghost use Rattle.mutator_seat.specs.Stretches.{are_marks, asks_next, status_behi
 
 use crate::mutator::Mutator;
 use cell_words::modes::{next_status, requested};
-use cell_words::{Control, GREATEST_CYCLES, Status};
+use cell_words::{Control, Status};
 use heap_rule::Keeping;
 use heap_table::CellHeap;
 use mutator_events::MutSeat;
@@ -50,7 +50,7 @@ impl<'a, P: Keeping> Mutator<'a, P> {
         requires inside { self.old.seat.me.presence.inside ≡ true }
         ensures told { self.new ≡ takes self.old (event.Look self.old.seat.me.number)
             (finds.Control result) }
-        ensures few { result.cycles ≤ GREATEST_CYCLES }
+        ensures few { result.cycles ≤ 4000000000 }
     {
         look_once(self.heap, &mut self.seat)
     }
@@ -65,7 +65,7 @@ pub fn look_once<P: Keeping>(heap: &CellHeap<P>, seat: &mut MutSeat<P>) -> Contr
         ≡ takes (bound heap.now seat.old) (event.Look seat.old.me.number)
         (finds.Control result) }
     ensures mode { HasMode (bound heap.now seat.new) }
-    ensures few { result.cycles ≤ GREATEST_CYCLES }
+    ensures few { result.cycles ≤ 4000000000 }
 {
     seat.look(heap)
 }

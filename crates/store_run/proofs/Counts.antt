@@ -11,6 +11,7 @@ use Rattle.doc_model.specs.Answers.{is_ok}
 use Rattle.doc_model.specs.ClientLog.{ClientLog}
 use Rattle.doc_model.specs.Merge.{all_entries}
 use Rattle.doc_model.specs.declared.command.Entry.{Entry}
+use Rattle.run_limits.specs.declared.TheConstants.{MOST_COMMANDS, MOST_VERSIONS}
 
 -- how many versions so many entries made
 pub made_count : (es : List Entry)
@@ -54,23 +55,23 @@ made_next logs i d lt =
 
 -- logs that are short have few entries
 pub few_entries : (logs : List ClientLog)
-    → All (λ (g : ClientLog). length g.entries ≤ 100_000) logs
-    → length (all_entries logs) ≤ 100_000 * length logs
+    → All (λ (g : ClientLog). length g.entries ≤ MOST_COMMANDS) logs
+    → length (all_entries logs) ≤ MOST_COMMANDS * length logs
 few_entries [] short = omega arith
 few_entries (g ∷ logs) short =
-    let one = All-head (λ (g : ClientLog). length g.entries ≤ 100_000) g logs short in
+    let one = All-head (λ (g : ClientLog). length g.entries ≤ MOST_COMMANDS) g logs short in
     let rest = few_entries logs
-    (All-tail (λ (g : ClientLog). length g.entries ≤ 100_000) g logs short) in
+    (All-tail (λ (g : ClientLog). length g.entries ≤ MOST_COMMANDS) g logs short) in
     let sum = length-append g.entries (all_entries logs) in
     omega (arith, one, rest, sum)
 
 -- So the next log's entries can be counted too, and the new versions among them.
 module _ (logs : List ClientLog) (i : ℕ) (log : ClientLog) (few : length logs ≤ 64)
-    (short : All (λ (g : ClientLog). length g.entries ≤ 100_000) logs) (lt : i < length logs)
+    (short : All (λ (g : ClientLog). length g.entries ≤ MOST_COMMANDS) logs) (lt : i < length logs)
     (is : log ≡ get_or logs i log) where
   pub entries_fit : (count : ℕ)
       → count + length (all_entries (drop i logs)) ≡ length (all_entries logs)
-      → count + length log.entries ≤ 6_400_000
+      → count + length log.entries ≤ MOST_VERSIONS
   entries_fit count so_far =
       let next = entries_next logs i log lt in
       let its = ap (λ (g : ClientLog). length g.entries) is in
@@ -80,7 +81,7 @@ module _ (logs : List ClientLog) (i : ℕ) (log : ClientLog) (few : length logs 
   pub made_fit : (count : ℕ)
       → count + length (ok_places (all_entries (drop i logs)))
       ≡ length (ok_places (all_entries logs))
-      → count + length (ok_places log.entries) ≤ 6_400_000
+      → count + length (ok_places log.entries) ≤ MOST_VERSIONS
   made_fit count so_far =
       let next = made_next logs i log lt in
       let its = ap (λ (g : ClientLog). length (ok_places g.entries)) is in

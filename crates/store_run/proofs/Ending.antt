@@ -18,27 +18,28 @@ use Rattle.doc_model.specs.declared.command.Command.{Command}
 use Rattle.doc_model.specs.declared.command.Entry.{Entry}
 use Rattle.heap_rule.specs.Shape.{Shape}
 use Rattle.heap_rule.specs.declared.view.View.{View}
+use Rattle.run_limits.specs.declared.TheConstants.{MOST_COMMANDS}
 use Rattle.store_run.specs.Answered.{commands_of}
 use Rattle.version_rule.specs.Pass.{Pass}
 
 -- logs with the first commands of short scripts are short
 pub short_logs : (scripts : List (Vec Command Global)) (logs : List ClientLog)
-    → All (λ (script : Vec Command Global). length script.items ≤ 100_000) scripts
+    → All (λ (script : Vec Command Global). length script.items ≤ MOST_COMMANDS) scripts
     → AreFronts (map commands_of logs) (lists_of scripts)
-    → All (λ (g : ClientLog). length g.entries ≤ 100_000) logs
-short_logs [] [] short fronts = All-nil (λ (g : ClientLog). length g.entries ≤ 100_000)
+    → All (λ (g : ClientLog). length g.entries ≤ MOST_COMMANDS) logs
+short_logs [] [] short fronts = All-nil (λ (g : ClientLog). length g.entries ≤ MOST_COMMANDS)
 short_logs [] (g ∷ logs) short fronts = absurd fronts
 short_logs (script ∷ scripts) [] short fronts = absurd fronts
 short_logs (script ∷ scripts) (g ∷ logs) short fronts =
     let first = ap (λ (xs : List Command). length xs) fronts.0 in
     let cut = length-take (length (commands_of g)) script.items in
     let many = length-map g.entries (λ (e : Entry). e.command) in
-    let few = All-head (λ (script : Vec Command Global). length script.items ≤ 100_000) script
+    let few = All-head (λ (script : Vec Command Global). length script.items ≤ MOST_COMMANDS) script
     scripts short in
-    All-cons (λ (g : ClientLog). length g.entries ≤ 100_000) g logs
+    All-cons (λ (g : ClientLog). length g.entries ≤ MOST_COMMANDS) g logs
     (omega (arith, first, cut, many, few))
     (short_logs scripts logs
-    (All-tail (λ (script : Vec Command Global). length script.items ≤ 100_000) script scripts
+    (All-tail (λ (script : Vec Command Global). length script.items ≤ MOST_COMMANDS) script scripts
     short) fronts.1)
 
 pub many_lists : (scripts : List (Vec Command Global)) → length (lists_of scripts) ≡ length scripts

@@ -8,6 +8,7 @@ ghost use Rattle.beside_collector.specs.Scripts.{script_of};
 ghost use Rattle.client_run.specs.Options.{IsWithin};
 ghost use Rattle.client_threads.specs.Clients.{IsDone, IsReady};
 ghost use Rattle.client_threads.specs.Taken.{AreFronts, lists_of};
+ghost use Rattle.run_limits.specs.declared.TheConstants.{MOST_COMMANDS};
 ghost use Rattle.store_run.specs.Answered.{commands_of};
 ghost use Rattle.store_run.specs.Finished.{Comes};
 ghost use Rattle.store_run.specs.Parts.{IsOpened};
@@ -49,7 +50,7 @@ pub(crate) fn open_run<R: Threads + Wait + Sync>(
 ) -> Result<Opened, NoMemory>
     requires some { 1 ≤ length scripts.now }
     requires few { length scripts.now ≤ 64 }
-    requires short { All (λ script. length script.items ≤ 100_000) scripts.now }
+    requires short { All (λ script. length script.items ≤ MOST_COMMANDS) scripts.now }
     requires options { IsWithin options.now }
     ensures opened { IfOk result (λ made. IsOpened options.now scripts.now made) }
 {
@@ -76,7 +77,7 @@ pub(crate) fn run_opened<R: Threads + Wait + Sync, G: Gate + Sync>(
     opened: Opened,
 ) -> Closed
     requires some { 1 ≤ length scripts.now }
-    requires short { All (λ script. length script.items ≤ 100_000) scripts.now }
+    requires short { All (λ script. length script.items ≤ MOST_COMMANDS) scripts.now }
     requires options { IsWithin options.now }
     requires opened { IsOpened options.now scripts.now opened }
     ensures comes { Comes options.now (map commands_of result.finished.logs.items)
@@ -103,7 +104,7 @@ pub(crate) fn run_opened<R: Threads + Wait + Sync, G: Gate + Sync>(
     let hints = &queue;
     let each = move |number: u32, client: Worker<Documents, Client>| -> Worker<Documents, Client>
         requires { (at.now.shape.setting ≡ limits.keep)
-            × (length (script_of scripts.now number) ≤ 100_000)
+            × (length (script_of scripts.now number) ≤ MOST_COMMANDS)
             × IsReady at.now hints.now limits number client }
         ensures { IsDone at.entry.now limits scripts.entry.now number result }
     { run_client(alloc, rt, gate, at, hints, scripts, limits, number, client) };

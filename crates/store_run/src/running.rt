@@ -2,6 +2,7 @@
 ghost use Rattle.std.specs.Prelude.{◌≤◌, All, IfOk, length};
 ghost use Rattle.client_run.specs.Options.{IsWithin};
 ghost use Rattle.client_threads.specs.Taken.{lists_of};
+ghost use Rattle.run_limits.specs.declared.TheConstants.{MOST_COMMANDS};
 ghost use Rattle.store_run.specs.Finished.{Comes};
 
 use crate::finished::Finished;
@@ -31,7 +32,7 @@ pub fn run_clients<R: Threads + Wait + Sync, G: Gate + Sync>(
 ) -> Result<Finished, NoMemory>
     requires some { 1 ≤ length scripts.now }
     requires few { length scripts.now ≤ 64 }
-    requires short { All (λ script. length script.items ≤ 100_000) scripts.now }
+    requires short { All (λ script. length script.items ≤ MOST_COMMANDS) scripts.now }
     requires options { IsWithin options.now }
     ensures { IfOk result (λ f. Comes options.now (lists_of scripts.now) f.logs.items f.image
         f.passes f.totals) }

@@ -3,6 +3,7 @@ ghost use Rattle.std.specs.Prelude.{◌≡◌, ◌≤◌, ◌<◌, ◌+◌, ◌*
 ghost use Rattle.std.specs.Prelude.{length};
 ghost use Rattle.doc_model.specs.Agreement.{ok_places};
 ghost use Rattle.doc_model.specs.Merge.{all_entries};
+ghost use Rattle.run_limits.specs.declared.TheConstants.{MOST_COMMANDS};
 ghost use Rattle.store_run.specs.Finished.{IsTotals};
 ghost use Rattle.store_run.specs.Parts.{IsCounted};
 
@@ -16,7 +17,7 @@ const FIRST: u64 = 3;
 /// The totals of a run whose collector freed so many cells.
 pub(crate) fn totals_of(image: &Image, freed: u64, logs: &[Log]) -> Totals
     requires few { length logs.now ≤ 64 }
-    requires short { All (λ log. length log.entries ≤ 100_000) logs.now }
+    requires short { All (λ log. length log.entries ≤ MOST_COMMANDS) logs.now }
     requires freed { freed < 2 ^ 63 }
     requires counted { IsCounted image.now freed }
     ensures totals { (at : IsCounted image.now freed)
@@ -40,7 +41,7 @@ pub(crate) fn totals_of(image: &Image, freed: u64, logs: &[Log]) -> Totals
 /// How many entries the logs have.
 fn commands_in(logs: &[Log]) -> u64
     requires few { length logs.now ≤ 64 }
-    requires short { All (λ log. length log.entries ≤ 100_000) logs.now }
+    requires short { All (λ log. length log.entries ≤ MOST_COMMANDS) logs.now }
     ensures count { result ≡ length (all_entries logs.now) }
 {
     let mut count = 0;
@@ -53,7 +54,7 @@ fn commands_in(logs: &[Log]) -> u64
 /// How many versions they made.
 fn versions_in(logs: &[Log]) -> u64
     requires few { length logs.now ≤ 64 }
-    requires short { All (λ log. length log.entries ≤ 100_000) logs.now }
+    requires short { All (λ log. length log.entries ≤ MOST_COMMANDS) logs.now }
     ensures count { result ≡ length (ok_places (all_entries logs.now)) }
 {
     let mut count = 0;

@@ -1,5 +1,6 @@
 //! Runs of clients with the same script on a heap of the smallest size, and their totals.
 ghost use Rattle.std.specs.Prelude.{◌≤◌};
+ghost use Rattle.cell_words.specs.declared.controls.TheConstants.{GREATEST_CYCLES};
 
 use crate::scripts::{alike, repeated};
 use doc_model::Totals;
@@ -20,7 +21,7 @@ pub(crate) fn run_of<R: Threads + Wait + Sync, G: Gate + Sync>(
     gate: &G,
 ) -> Result<Finished, Fail>
     requires clients { (1 ≤ clients) × (clients ≤ 64) }
-    requires cycles { cycles ≤ 4_000_000_000 }
+    requires cycles { cycles ≤ GREATEST_CYCLES }
 {
     let scripts = alike(alloc, clients, text)?;
     let options = Options {
@@ -43,7 +44,7 @@ pub(crate) fn totals_of<R: Threads + Wait + Sync, G: Gate + Sync>(
     gate: &G,
 ) -> Result<Totals, Fail>
     requires clients { (1 ≤ clients) × (clients ≤ 64) }
-    requires cycles { cycles ≤ 4_000_000_000 }
+    requires cycles { cycles ≤ GREATEST_CYCLES }
 {
     let text = repeated(alloc, b"put a x\n", puts)?;
     let finished = run_of(alloc, rt, clients, &text, cycles, gate)?;

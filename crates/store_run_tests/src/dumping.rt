@@ -1,7 +1,9 @@
 //! Runs of clients alongside which a version is dumped.
 ghost use Rattle.std.specs.Prelude.{◌≤◌, length};
+ghost use Rattle.cell_words.specs.declared.controls.TheConstants.{GREATEST_POSITION};
 
 use crate::scripts::scripts_of;
+use cell_words::GREATEST_CYCLES;
 use doc_export::{Dumped, Options, dump_run};
 use outside::Gate;
 use std::alloc::Global;
@@ -19,7 +21,7 @@ pub(crate) fn dumped_of<R: Threads + Wait + Sync, G: Gate + Sync>(
 ) -> Result<Dumped, Fail>
     requires some { 1 ≤ length texts.now }
     requires few { length texts.now ≤ 63 }
-    requires cells { (64 ≤ cells) × (cells ≤ 4_194_304) }
+    requires cells { (64 ≤ cells) × (cells ≤ GREATEST_POSITION) }
 {
     let scripts = scripts_of(alloc, texts)?;
     let options = Options {
@@ -27,7 +29,7 @@ pub(crate) fn dumped_of<R: Threads + Wait + Sync, G: Gate + Sync>(
         minor: 4_096,
         keep: 1,
         versions: 1_000_000,
-        cycles: 4_000_000_000,
+        cycles: GREATEST_CYCLES,
     };
     Ok(dump_run(alloc, rt, &scripts, &options, gate)?)
 }

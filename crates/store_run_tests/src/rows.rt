@@ -1,6 +1,7 @@
 //! Rows, worked out by hand, and what holds on every schedule.
 use crate::counting::totals_of;
 use crate::gates::OrderGate;
+use cell_words::GREATEST_CYCLES;
 use doc_model::Totals;
 use outside::OpenGate;
 use std::alloc::Global;
@@ -8,14 +9,11 @@ use std::sync::Wait;
 use std::test::Fail;
 use std::thread::Threads;
 
-/// More cycles than a run makes.
-const CYCLES: u32 = 4_000_000_000;
-
 // A hundred puts claim more cells than the heap has, so cells were freed while the client had
 // commands left. A run whose collector stands still, or begins after its clients, is `full`.
 #[test]
 fn cells_are_freed_beside_the_client(rt: HostRuntime) -> Result<(), Fail> {
-    let totals = totals_of(rt.alloc(), &rt, 1, 100, CYCLES, &OpenGate)?;
+    let totals = totals_of(rt.alloc(), &rt, 1, 100, GREATEST_CYCLES, &OpenGate)?;
     let commits = (totals.commands, totals.versions);
     let cells = [totals.claimed, totals.freed, totals.used, totals.free];
     let wanted = ((100, 100), [501, 497, 7, 57], true);
@@ -31,7 +29,7 @@ fn in_order<R: Threads + Wait + Sync>(
     rt: &R,
 ) -> Result<((bool, bool, (u32, u32)), Totals), Fail> {
     let gate = OrderGate::new(100);
-    let totals = totals_of(alloc, rt, 2, 100, CYCLES, &gate)?;
+    let totals = totals_of(alloc, rt, 2, 100, GREATEST_CYCLES, &gate)?;
     Ok(((gate.late(), gate.strange(), gate.next()), totals))
 }
 
@@ -64,7 +62,7 @@ fn clients_fill_a_heap_whose_collector_is_off_duty(rt: HostRuntime) -> Result<()
 // heap full or not.
 #[test]
 fn several_clients_share_a_small_heap(rt: HostRuntime) -> Result<(), Fail> {
-    let totals = totals_of(rt.alloc(), &rt, 4, 50, CYCLES, &OpenGate)?;
+    let totals = totals_of(rt.alloc(), &rt, 4, 50, GREATEST_CYCLES, &OpenGate)?;
     let taken = totals.claimed.saturating_add(3);
     let left = totals.used.saturating_add(totals.freed);
     let cells = totals.used.saturating_add(totals.free);

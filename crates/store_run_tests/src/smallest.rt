@@ -5,15 +5,14 @@ ghost use Rattle.std.specs.Prelude.{◌≤◌};
 use crate::counting::run_of;
 use crate::gates::LastGate;
 use crate::scripts::repeated;
+use cell_words::GREATEST_CYCLES;
 use doc_model::{Entry, Totals, is_legal, merge};
 use outside::{Gate, OpenGate};
+use run_limits::MOST_COMMANDS;
 use std::alloc::Global;
 use std::sync::Wait;
 use std::test::Fail;
 use std::thread::Threads;
-
-/// More cycles than a run makes.
-const CYCLES: u32 = 4_000_000_000;
 
 /// Whether some reply says that the heap was full.
 fn has_full(entries: &[Entry]) -> bool {
@@ -40,12 +39,13 @@ fn puts_at<R: Threads + Wait + Sync, G: Gate + Sync>(
     gate: &G,
 ) -> Result<((usize, bool, bool), bool), Fail>
     requires clients { (1 ≤ clients) × (clients ≤ 64) }
-    requires cycles { cycles ≤ 4_000_000_000 }
+    requires cycles { cycles ≤ GREATEST_CYCLES }
 {
     let text = repeated(alloc, b"put a x\n", puts)?;
     let finished = run_of(alloc, rt, clients, &text, cycles, gate)?;
     let merged = merge(alloc, &finished.logs)?;
-    let legal = merged.len() <= 100_000 && is_legal(alloc, &merged, clients, 1, 1_000_000)?;
+    let legal = merged.len() <= MOST_COMMANDS as usize
+        && is_legal(alloc, &merged, clients, 1, 1_000_000)?;
     let full = has_full(&merged);
     Ok(((merged.len(), legal, agree(finished.totals, full)), full))
 }
@@ -66,14 +66,14 @@ fn one_cycle_is_enough_for_a_lawful_answer(rt: HostRuntime) -> Result<(), Fail> 
     Ok(())
 }
 
-/// The same for two clients of which the second is held at its hundredth command while the first has
-/// the last half of its own; and whether it began before these were done.
+/// The same for two clients of which the second is held at its hundredth command while the first
+/// has the last half of its own; and whether it began before these were done.
 fn held<R: Threads + Wait + Sync>(
     alloc: Global,
     rt: &R,
 ) -> Result<(((usize, bool, bool), bool), bool), Fail> {
     let gate = LastGate::new(100, 200);
-    let shown = puts_at(alloc, rt, 2, 200, CYCLES, &gate)?;
+    let shown = puts_at(alloc, rt, 2, 200, GREATEST_CYCLES, &gate)?;
     Ok((shown, gate.late()))
 }
 

@@ -6,6 +6,7 @@ use Rattle.client_threads.specs.declared.clients.Client.{Client}
 use Rattle.doc_model.specs.declared.command.Command.{Command}
 use Rattle.mutator_threads.proofs.EachDone.{all_done, all_so}
 use Rattle.mutator_threads.specs.declared.worker.Worker.{Worker}
+use Rattle.run_limits.specs.declared.TheConstants.{MOST_COMMANDS}
 use Rattle.version_rule.specs.Pass.{Pass}
 use Rattle.doc_export.proofs.beside.run_clients.Goals as goal
 
@@ -16,11 +17,11 @@ run_each-requires-clause-ready g c κs within =
     let limits = c.args.limits in
     all_so (λ (n : ℕ) (w : Worker Pass Client). IsReady heap queue limits n w)
     (λ (n : ℕ) (w : Worker Pass Client). (heap.shape.setting ≡ limits.keep)
-    × (length (script_of c.args.scripts.now n) ≤ 100_000)
+    × (length (script_of c.args.scripts.now n) ≤ MOST_COMMANDS)
     × IsReady heap queue limits n w)
     (λ n w ready. (
       c.requires.keep,
-      script_is (λ (script : List Command). length script ≤ 100_000) (omega arith)
+      script_is (λ (script : List Command). length script ≤ MOST_COMMANDS) (omega arith)
           c.args.scripts.now n c.requires.short,
       ready,
     )) 0 c.args.clients.items c.requires.ready

@@ -15,6 +15,7 @@ use Rattle.doc_model.specs.ClientLog.{ClientLog}
 use Rattle.heap_rule.specs.Shape.{Shape}
 use Rattle.mutator_threads.proofs.EachDone.{all_done, all_so}
 use Rattle.mutator_threads.specs.declared.worker.Worker.{Worker}
+use Rattle.run_limits.specs.declared.TheConstants.{MOST_COMMANDS}
 use Rattle.store_run.specs.Answered.{commands_of}
 use Rattle.store_run.specs.Finished.{IsTotals}
 use Rattle.version_rule.specs.Pass.{Pass}
@@ -39,11 +40,11 @@ run_workers-workers-requires-clause-ready g c κs within =
     all_so (λ (n : ℕ) (w : Worker Pass Client).
     IsReady store.heap store.queue limits n w)
     (λ (n : ℕ) (w : Worker Pass Client). (store.heap.shape.setting ≡ limits.keep)
-    × (length (script_of c.args.scripts.now n) ≤ 100_000)
+    × (length (script_of c.args.scripts.now n) ≤ MOST_COMMANDS)
     × IsReady store.heap store.queue limits n w)
     (λ n w ready. (
       keep,
-      script_is (λ (script : List Command). length script ≤ 100_000) (omega arith)
+      script_is (λ (script : List Command). length script ≤ MOST_COMMANDS) (omega arith)
           c.args.scripts.now n c.requires.short,
       ready,
     )) 0 store.workers.items
@@ -106,7 +107,7 @@ totals_of-totals-requires g c =
     record {
       few = omega (arith, same, many, few);
       short = subst (λ (gs : List ClientLog).
-          All (λ (log : ClientLog). length log.entries ≤ 100_000) gs)
+          All (λ (log : ClientLog). length log.entries ≤ MOST_COMMANDS) gs)
           (sym c.deref.ensures.value) (short_logs scripts logs c.requires.short left.fronts);
       freed = is.few_freed;
       counted = counted o (lists_of scripts) logs closed.image closed.passes

@@ -4,10 +4,11 @@ use Rattle.std.proofs.lemmas.List.Elements.{All-push}
 use Rattle.std.specs.Prelude.{All, Vec}
 use Rattle.std.specs.declared.alloc.Global.{Global}
 use Rattle.doc_model.specs.declared.command.Command.{Command}
+use Rattle.run_limits.specs.declared.TheConstants.{MOST_COMMANDS}
 use Rattle.store_run_tests.proofs.scripts.scripts_of.Goals as goal
 
 abbrev IsShort : Vec Command Global → Type 0
-IsShort script = length script.items ≤ 100_000
+IsShort script = length script.items ≤ MOST_COMMANDS
 
 pub loop-place-init : goal.loop-place-init
 loop-place-init c = record {
