@@ -170,10 +170,10 @@ heap_code heap_set(heap_mut *m, size_t i, heap_val v);
  *
  * It does nothing where there is such room, and places besides for a share of all later: one for
  * each record, there or asked for, and one for each root. Where there are so many places, but not
- * room for the records, it lets private records go that no root leads to, and the others move. It
- * does so only where no record may have a copy or was kept by such a step before. Else it makes a
- * step of heap_share, of at most 1000 copies, or an eighth of the room for records if that is more:
- * nothing moves until the last step, after which no private record is left.
+ * room for the records, it lets private records go that no root leads to, and the others move; but
+ * not while a record may have a copy, or was kept by such a step before. Else it makes a step of
+ * heap_share, of at most 1000 copies, or an eighth of the room for records if that is more: nothing
+ * moves until the last step, after which no private record is left.
  *
  * Who reserves so before all else never lacks the places for a share, if heap_seat was given base +
  * places + the room for records + twice that for roots, or more. */

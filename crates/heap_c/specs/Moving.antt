@@ -145,7 +145,8 @@ AgesFor old new records code.Part =
 AgesFor old new records code.Spent = (old.turn ≡ 4294967295) × (new ≡ old)
 AgesFor old new records _ = ⊥
 
--- One ageing and no more, of records of which none has a copy and none was kept by an ageing before.
+-- One ageing and no more, of records of which none has a copy, and none was kept by an ageing
+-- before.
 abbrev pub Ages : Owned → Owned → Type 0
 Ages m later = NoneMarked m.local.copied
     × ((m.local.aged ≡ 0) × ((later.held ≡ m.held) × AgesRecords m.local later.local))
