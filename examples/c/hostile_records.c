@@ -1,6 +1,6 @@
-/* Random calls of records, right and wrong ones, in threads: what each call answers is compared with
- * a model of what the thread's records, boxes, roots and places have. A record's field 0 is its
- * number, and a box's field 4, so that whatever comes back tells what it is.
+/* Random calls of records, right and wrong ones, in threads: what each call answers is compared
+ * with a model of what the thread's records, boxes, roots and places have. A record's field 0 is
+ * its number, and a box's field 4, so that whatever comes back tells what it is.
  *
  *     hostile_records [CALLS [THREADS [SEED]]]
  */
