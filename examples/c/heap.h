@@ -8,8 +8,8 @@
  *    never forged, and never copied but to move it, after which the old one is not used;
  *  3 one call at a time has a handle. Another thread gets it by a lock, a thread's start or join,
  *    or a SeqCst atomic; calls with different handles may run at the same time;
- *  4 pointers are good: `out`, `place`, `how`, `same` have room for one value, `v` and the `out` of
- *    heap_read_all for as many as is said, and nobody else looks there during the call;
+ *  4 pointers are good: `out`, `place`, `how`, `same` have room for one value, `v`, `path` and the
+ *    `out` of heap_read_all for as many as is said, and nobody else looks there during the call;
  *  5 malloc, realloc and free are of one allocator, with blocks aligned to 16 bytes;
  *  6 no call is made in a signal handler, or in the forked child of a process with threads.
  * Owed for progress alone: a mutator that is in calls heap_answer often, is parked, or makes cells;
@@ -20,6 +20,9 @@
  * share from the start; no field names it. The others begin at HEAP_FIRST. A call that hands out a
  * cell holds it at the next place. What is held, or reached from there or from the anchor, is not
  * freed.
+ * Calls name a place by its number, which is its index as long as no private records have moved. A
+ * move (heap_share, heap_reserve) gives the places from its base on new numbers, so that a number
+ * from before it is refused, and never taken for another cell; heap_place tells the new one.
  * There are two sorts of cells. A box is made by heap_make, and may be written; the anchor is one.
  * A record never changes, and names records alone. Of each box the first fields, as many as
  * heap_open says, name boxes and the others records; all fields of the anchor name boxes. So with 5
@@ -46,16 +49,17 @@ typedef atomic_uint heap_word;
 typedef enum {
     HEAP_OK = 0,
     HEAP_NO_MEMORY = 1,  /* malloc had none; heap_open, heap_seat and heap_records alone */
-    HEAP_BAD_PLACE = 2,  /* no such place or root; the anchor's where another is wanted; a record's
-                          * where a box is wanted; or a private record names places from there on */
+    HEAP_BAD_PLACE = 2,  /* no such place or root, or a place's number from before a move; the
+                          * anchor's where another is wanted; a record's where a box is wanted; or
+                          * a private record names places from there on */
     HEAP_BAD_FIELD = 3,  /* above 4 */
     HEAP_NO_ROOM = 4,    /* too few places are free: see heap_room */
     HEAP_WAIT = 5,       /* no cell is free now: answer, sleep, try again; or heap_make_wait */
     HEAP_MOVED = 6,      /* the field holds something else */
     HEAP_NOT_IN = 7,     /* the mutator is out */
     HEAP_BAD_VALUE = 8,  /* no such tag, a number from 2^62 on, no place from HEAP_FIRST on, a cell
-                          * of the other sort, or a private record that has moved or may not stand
-                          * there */
+                          * of the other sort, a place or private record from before a move, or a
+                          * private record that may not stand there */
     HEAP_IS_IN = 9,      /* the mutator is in already, or in at its end */
     HEAP_NO_HANDLE = 10, /* a handle that is zero: never opened, or ended */
     HEAP_FULL = 11,      /* no cell is free, and two whole cycles did not help; or off duty */
@@ -69,8 +73,8 @@ typedef enum {
 
 typedef struct { void *p; } heap_mut;         /* a mutator's handle */
 typedef struct { void *p; } heap_col;         /* the collector's */
-/* HEAP_NULL; HEAP_NUM n; HEAP_REF, the cell at place n; HEAP_REC, a private record; HEAP_NONE, no
- * value: the code n says why. */
+/* HEAP_NULL; HEAP_NUM n; HEAP_REF, the cell at the place with number n; HEAP_REC, a private record;
+ * HEAP_NONE, no value: the code n says why. */
 typedef struct { uint64_t tag, n; } heap_val;
 enum { HEAP_NULL = 0, HEAP_NUM = 1, HEAP_REF = 2, HEAP_REC = 3, HEAP_NONE = 4 };
 enum { HEAP_FIRST = 1, HEAP_FIELDS = 5, HEAP_LEAST_ROOM = 8, HEAP_PATIENCE = 8, HEAP_SLICE = 1000 };
@@ -117,6 +121,8 @@ size_t heap_room(heap_mut *m);      /* how many more it may hold; 0 out or witho
  * place p to the next one. BAD_PLACE, also where a private record, a copy or a root of the stack
  * names a place from n on (heap_release does not mind); NO_ROOM. 6 ns */
 heap_code heap_keep(heap_mut *m, size_t n, size_t place, size_t count);
+/* The number of the i-th place, from 0; heap_index gives the i of a number. BAD_PLACE */
+heap_code heap_place(heap_mut *m, size_t i, size_t *place);
 /* A new box of n values, 5 at most, the other fields null. The safe point too. 1 place free, or
  * NO_ROOM; BAD_SIZE, BAD_VALUE, WAIT, FULL. 70 ns. make_at: and then heap_keep(m, keep, it, 1). */
 heap_code heap_make(heap_mut *m, const heap_val *v, size_t n, size_t *place);
@@ -138,9 +144,11 @@ heap_code heap_same(heap_mut *m, size_t one, size_t other, int *same); /* are th
  * NOT_ZERO, BAD_SIZE, NO_MEMORY.
  *
  * A reference, of tag HEAP_REC, is good until private records move, which heap_reserve, heap_share
- * and heap_end alone do: from then on every call answers BAD_VALUE to it. What is on the stack of
- * roots moves along. A private record, the copy of one and a root of tag HEAP_REF name places of
- * the held list; those places stay until the records go (heap_keep, heap_release). */
+ * and heap_end alone do: from then on every call answers BAD_VALUE to it. The number of a place is
+ * refused in the same way, unless the place was below the base of every move: it is its index then.
+ * What is on the stack of roots moves along. A private record, the copy of one and a root of tag
+ * HEAP_REF name places of the held list; those places stay until the records go (heap_keep,
+ * heap_release). */
 heap_code heap_records(heap_mut *m, uint32_t records, uint32_t roots);
 /* A private record of five values: null, numbers, private records, and places of shared records. A
  * byte of `kinds` for each tag, that of the first field lowest; heap_record below takes values. It
@@ -152,6 +160,13 @@ heap_val heap_new(heap_mut *m, uint64_t kinds, uint64_t a, uint64_t b, uint64_t 
  * (the anchor's fields one by one); NO_ROOM */
 heap_code heap_get(heap_mut *m, heap_val of, size_t field, heap_val *out);
 heap_code heap_get_all(heap_mut *m, heap_val of, heap_val *out, size_t five);
+/* Along a path: a field of `of` as heap_get reads it, a field of what that gave, and so on; `path`
+ * has the n numbers, and `out` gets what the last one gave. What was passed is not held: after OK a
+ * cell that was read last is at the next place, and one that a private record names is where it
+ * was. On the way each cell that is read takes a place, so n free places are always enough. Or what
+ * heap_get says of a step that was refused, as BAD_VALUE where the path goes on from null or a
+ * number; then no place more is held. BAD_SIZE: n is 0 */
+heap_code heap_walk(heap_mut *m, heap_val of, const uint8_t *path, size_t n, heap_val *out);
 /* The stack of roots, counted from the oldest; a root is any value. heap_pop lets the newest n go.
  * NO_ROOM where the stack is full; BAD_VALUE; BAD_PLACE where there are not so many. */
 size_t heap_roots(heap_mut *m); /* how many there are; 0 out or without a handle */
@@ -165,7 +180,7 @@ heap_code heap_set(heap_mut *m, size_t i, heap_val v);
  * WAIT, FULL: no cell was free for a copy. Nothing is lost: the next call goes on.
  * NO_ROOM: there are too few places for a share, or for `places` after one.
  * BAD_PLACE: base, as in heap_share. BAD_SIZE: more records than there can be.
- * SPENT: private records moved 4294967295 times. Nothing was done.
+ * SPENT: private records moved 4294967295 times, so they and places move no more. Nothing was done.
  * After OK, PART and NO_ROOM private records may have moved: heap_root gives references again.
  *
  * It does nothing where there is such room, and places besides for a share of all later: one for
@@ -183,7 +198,7 @@ heap_code heap_reserve(heap_mut *m, size_t base, uint32_t records, size_t places
  * first `base` places, 1 at least, and then each root that is a cell, in order; those roots are
  * HEAP_REF now, and no private record is left. WAIT and FULL lose nothing: the copies stay.
  * NO_ROOM: it takes a place for each copy, and one for each root at the end, besides those that are
- * held (roots that are null or numbers count too). A safe point where it makes a cell. */
+ * held (roots that are null or numbers count too). SPENT. A safe point where it makes a cell. */
 heap_code heap_share(heap_mut *m, size_t base, size_t most);
 /* The same for one private record, which may be a root or not: nothing moves, and the place holds
  * its copy. */
@@ -199,6 +214,7 @@ heap_code heap_release(heap_mut *m, size_t n);
 static inline heap_val heap_null(void) { heap_val v = { HEAP_NULL, 0 }; return v; }
 static inline heap_val heap_num(uint64_t n) { heap_val v = { HEAP_NUM, n }; return v; }
 static inline heap_val heap_ref(size_t place) { heap_val v = { HEAP_REF, place }; return v; }
+static inline size_t heap_index(size_t place) { return place & UINT32_MAX; }
 
 static inline void heap_sleep(void) {
     struct timespec time = { 0, 50000 };

@@ -9,6 +9,7 @@
 
 enum { RECORDS = 200, ROOTS = 60, ROOM = 700, CELLS = 900, MOST_THREADS = 16 };
 enum { LIVE = 256, STALE = 64, MOST_BOXES = 40, BOXES = 2, BOX_NUMBER = 4 };
+enum { MOST_STEPS = 6 };
 typedef enum { NOTHING, NUMBER, RECORD, BOX, COPY } sort; /* COPY: a record that was not read yet */
 typedef struct { sort sort; uint32_t n; } thing;
 typedef struct { thing has[HEAP_FIELDS]; } shape;
@@ -22,7 +23,8 @@ typedef struct {
     size_t holds, rooted;
     reference live[LIVE]; /* private records that may be named */
     heap_val stale[STALE];
-    size_t lives, stales;
+    size_t lives, stales, steady; /* places below the last one have moved never */
+    size_t index, number;         /* of some place, before a call that may move it */
     shape *records, boxes[MOST_BOXES];
     uint32_t made, boxed;
 } world;
@@ -59,6 +61,15 @@ static void says(world *w, heap_val v, thing is) {
 
 static void hold(world *w, thing is) { w->held[w->holds++] = is; }
 
+/* The cell at a place that has this index now. */
+static size_t number_of(world *w, size_t i) {
+    size_t place;
+    MUST(heap_place(w->m, i, &place));
+    HOLDS(heap_index(place) == i && (i >= w->steady || place == i));
+    return place;
+}
+static heap_val at_index(world *w, size_t i) { return heap_ref(number_of(w, i)); }
+
 /* The places that calls took for copies, and what stands there. */
 static void reads_copies(world *w) {
     while (w->holds < heap_held(w->m)) hold(w, (thing){ COPY, 0 });
@@ -66,7 +77,7 @@ static void reads_copies(world *w) {
     for (size_t i = HEAP_FIRST; i < w->holds && heap_room(w->m) > 0; i++) {
         heap_val number;
         if (w->held[i].sort != COPY) continue;
-        MUST(heap_read(w->m, i, 0, &number));
+        MUST(heap_read(w->m, number_of(w, i), 0, &number));
         w->held[i] = (thing){ RECORD, (uint32_t)number.n };
     }
 }
@@ -87,10 +98,12 @@ static void found(world *w, heap_val v, thing is, int is_in_private) {
     } else {
         HOLDS(v.tag == HEAP_REF);
         if (!is_in_private) {
-            HOLDS(v.n == w->holds);
+            HOLDS(heap_index(v.n) == w->holds);
             hold(w, is);
         }
-        HOLDS(v.n < w->holds && (w->held[v.n].sort == COPY || is_same(w->held[v.n], is)));
+        size_t i = heap_index(v.n);
+        HOLDS(i < w->holds && (w->held[i].sort == COPY || is_same(w->held[i], is)));
+        HOLDS(v.n == number_of(w, i));
         if (heap_room(w->m) > 0) says(w, v, is);
     }
 }
@@ -117,7 +130,7 @@ static given some(world *w) {
     case 6: case 7:
         if (i == 0 || w->held[i].sort == COPY) break;
         g.is = w->held[i];
-        g.v = heap_ref(i);
+        g.v = at_index(w, i);
         break;
     default:
         if (w->lives == 0) break;
@@ -179,6 +192,50 @@ static void gets_all(world *w) {
         found(w, out[i], part_of(w, g.is, i), g.v.tag == HEAP_REC);
 }
 
+/* Copies places to the next ones until few are free. */
+static void fills(world *w) {
+    size_t left = below(w, MOST_STEPS);
+    while (w->holds > HEAP_FIRST && heap_room(w->m) > left) {
+        size_t count = w->holds - HEAP_FIRST, more = heap_room(w->m) - left;
+        if (count > more) count = more;
+        MUST(heap_keep(w->m, w->holds, number_of(w, HEAP_FIRST), count));
+        for (size_t i = HEAP_FIRST; i < HEAP_FIRST + count; i++) hold(w, w->held[i]);
+    }
+}
+
+/* Along a path, of which the model says how far it can be read, and what is there; now and then
+ * with few places free. */
+static void walks_path(world *w) {
+    given g = some(w);
+    uint8_t path[MOST_STEPS];
+    size_t n = below(w, MOST_STEPS + 1), holds = w->holds, cells = 0, i = 0;
+    heap_val out = heap_num(STALE);
+    thing is = g.is;
+    if (g.v.tag == HEAP_REF && g.v.n == 0) return; /* the anchor, which all threads have */
+    for (size_t k = 0; k < n; k++) path[k] = (uint8_t)below(w, HEAP_FIELDS + (below(w, 8) == 0));
+    if (below(w, 4) == 0) fills(w);
+    size_t room = heap_room(w->m);
+    heap_code code = called(w, heap_walk(w->m, g.v, path, n, &out));
+    for (; i < n && is.sort >= RECORD && path[i] < HEAP_FIELDS; i++) {
+        is = part_of(w, is, path[i]);
+        cells += is.sort >= RECORD;
+    }
+    if (code == HEAP_OK) {
+        HOLDS(n > 0 && i == n);
+        found(w, out, is, out.tag != HEAP_REF || heap_index(out.n) < w->holds);
+    } else {
+        HOLDS(out.tag == HEAP_NUM && out.n == STALE);
+        if (n == 0) HOLDS(code == HEAP_BAD_SIZE);
+        else if (code == HEAP_NO_ROOM) HOLDS(room <= cells);
+        else HOLDS(i < n && (is.sort >= RECORD ? code == HEAP_BAD_FIELD
+                             : code == HEAP_BAD_VALUE || (i == 0 && code == HEAP_BAD_PLACE)));
+    }
+    HOLDS(heap_held(w->m) == w->holds);
+    if (w->holds <= holds + 1) return;
+    MUST(heap_keep(w->m, holds, 0, 0));
+    w->holds = holds;
+}
+
 static void pushes(world *w) {
     given g = some(w);
     size_t i = below(w, w->rooted + 1);
@@ -217,6 +274,14 @@ static void walks(world *w) {
     }
 }
 
+/* What was good before a move is refused from now on. */
+static void is_stale(world *w, heap_val v) {
+    heap_val out;
+    HOLDS(heap_get(w->m, v, 0, &out) == (v.tag == HEAP_REC ? HEAP_BAD_VALUE : HEAP_BAD_PLACE));
+    HOLDS(heap_push(w->m, v) == HEAP_BAD_VALUE);
+    w->stale[w->stales < STALE ? w->stales++ : below(w, STALE)] = v;
+}
+
 /* After a call that may have moved records, and may have shared them: what is good now, and that
  * each root is what it was. Where the probe is good still nothing has moved. */
 static void moved(world *w, heap_val probe, size_t base, int has_shared) {
@@ -224,16 +289,18 @@ static void moved(world *w, heap_val probe, size_t base, int has_shared) {
     heap_val v;
     HOLDS(heap_roots(w->m) == w->rooted);
     if (heap_get(w->m, probe, 0, &v) == HEAP_OK) {
-        HOLDS(!has_shared);
+        HOLDS(!has_shared && w->number == number_of(w, w->index));
         return;
     }
-    for (size_t i = 0; i < w->lives; i++)
-        w->stale[w->stales < STALE ? w->stales++ : below(w, STALE)] = w->live[i].v;
+    if (base < w->steady) w->steady = base;
+    if (w->index >= w->steady) is_stale(w, heap_ref(w->number));
+    else HOLDS(w->number == number_of(w, w->index));
+    for (size_t i = 0; i < w->lives; i++) is_stale(w, w->live[i].v);
     w->lives = 0;
     for (size_t i = 0; i < w->rooted; i++) {
         MUST(heap_root(w->m, i, &v));
         HOLDS(!has_shared || v.tag != HEAP_REC);
-        if (has_shared && v.tag == HEAP_REF) HOLDS(v.n == base + cells);
+        if (has_shared && v.tag == HEAP_REF) HOLDS(heap_index(v.n) == base + cells);
         cells += v.tag == HEAP_REF || v.tag == HEAP_REC;
     }
     if (has_shared) {
@@ -250,8 +317,10 @@ static void moved(world *w, heap_val probe, size_t base, int has_shared) {
     }
 }
 
-/* A private record, or null if there is no room for one. */
+/* A private record, or null if there is no room for one; and a place with its number. */
 static heap_val probe_of(world *w) {
+    w->index = below(w, w->holds);
+    w->number = number_of(w, w->index);
     heap_val it = heap_record(w->m, heap_num(w->made), heap_null(), heap_null(), heap_null(),
                               heap_null());
     if (it.tag != HEAP_REC) return w->lives ? w->live[w->lives - 1].v : heap_null();
@@ -294,7 +363,7 @@ static int is_as_shared(world *w) {
     heap_val v;
     for (size_t i = 0; i < w->rooted; i++) {
         MUST(heap_root(w->m, i, &v));
-        if (v.tag == HEAP_REC || (v.tag == HEAP_REF && v.n != next)) return 0;
+        if (v.tag == HEAP_REC || (v.tag == HEAP_REF && heap_index(v.n) != next)) return 0;
         next += v.tag == HEAP_REF;
     }
     return heap_held(w->m) == next;
@@ -326,7 +395,7 @@ static void promotes(world *w) {
               is_late(code) || (code == HEAP_NO_ROOM && room < RECORDS));
         return;
     }
-    HOLDS(g.v.tag == HEAP_REC && g.is_good && place < w->holds);
+    HOLDS(g.v.tag == HEAP_REC && g.is_good && heap_index(place) < w->holds);
     if (heap_room(w->m) > 0) says(w, heap_ref(place), g.is);
     MUST(heap_promote(w->m, g.v, 1, &again));
     HOLDS(again == place);
@@ -342,19 +411,19 @@ static void makes_box(world *w) {
     if (code != HEAP_OK) return;
     memset(&w->boxes[w->boxed], 0, sizeof w->boxes[0]);
     w->boxes[w->boxed].has[BOX_NUMBER] = (thing){ NUMBER, w->boxed };
-    HOLDS(place == w->holds);
+    HOLDS(heap_index(place) == w->holds);
     hold(w, (thing){ BOX, w->boxed++ });
     MUST(heap_push(w->m, heap_ref(place)));
-    w->roots[w->rooted++] = w->held[place];
+    w->roots[w->rooted++] = w->held[heap_index(place)];
 }
 
 static void writes(world *w) {
-    size_t place = below(w, w->holds), field = below(w, BOX_NUMBER);
-    thing to = w->held[place];
+    size_t i = below(w, w->holds), field = below(w, BOX_NUMBER), place = number_of(w, i);
+    thing to = w->held[i];
     given g = some(w);
     heap_val was = heap_null();
     int swaps = below(w, 2) == 0;
-    if (place == 0 || to.sort == COPY || heap_room(w->m) < 3) return;
+    if (i == 0 || to.sort == COPY || heap_room(w->m) < 3) return;
     if (to.sort == RECORD) {
         HOLDS(called(w, heap_write(w->m, place, field, g.v)) != HEAP_OK);
         return;
@@ -390,14 +459,15 @@ static void goes_out(world *w) {
 
 static void (*const all[])(world *w) = {
     makes, makes, makes, makes, makes, makes, makes, makes, makes, makes, gets, gets, gets_all,
-    pushes, pushes, pushes, pushes, pops, pops, walks, walks, shares, reserves, tidies, promotes,
-    makes_box, writes, writes, lets_go, goes_out,
+    walks_path, walks_path, pushes, pushes, pushes, pushes, pops, pops, walks, walks, shares,
+    reserves, tidies, promotes, makes_box, writes, writes, lets_go, goes_out,
 };
 
 static void *runs(void *given) {
     world *w = given;
     MUST(heap_begin(w->m));
     w->holds = HEAP_FIRST;
+    w->steady = ROOM;
     while (w->calls < w->most && w->made < 3 * w->most) {
         all[below(w, sizeof all / sizeof all[0])](w);
         reads_copies(w);

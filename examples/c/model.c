@@ -127,11 +127,20 @@ static unsigned wrong(const model *m, const call *c) {
     }
 }
 
+/* Of who is out. A number that no place can have here may be told first: heap_make_at's place is a
+ * count. */
+static unsigned out_codes(const call *c) {
+    int names = c->kind == CALL_KEEP || c->kind == CALL_READ || c->kind == CALL_READ_ALL ||
+                c->kind == CALL_WRITE || c->kind == CALL_SWAP || c->kind == CALL_SAME;
+    int is_none = c->place > UINT32_MAX || (c->kind == CALL_SAME && c->other > UINT32_MAX);
+    return CODE(HEAP_NOT_IN) | (names && is_none ? CODE(HEAP_BAD_PLACE) : 0);
+}
+
 unsigned model_codes(const model *m, const call *c) {
     unsigned codes;
     if (!m->given) return CODE(HEAP_NO_HANDLE);
     if (c->kind == CALL_BEGIN || c->kind == CALL_LEAVE) codes = m->in ? CODE(HEAP_IS_IN) : 0;
-    else codes = m->in ? wrong(m, c) : CODE(HEAP_NOT_IN);
+    else codes = m->in ? wrong(m, c) : out_codes(c);
     if (codes) return codes;
     if (c->kind == CALL_MAKE || c->kind == CALL_MAKE_AT)
         return CODE(HEAP_OK) | CODE(HEAP_WAIT) | CODE(HEAP_FULL);

@@ -9,6 +9,7 @@ pub mod Naming
 pub mod OfCollecting
 pub mod OfMine
 pub mod Owner
+pub mod Paths
 pub mod Reserving
 pub mod RootSorts
 pub mod Staying

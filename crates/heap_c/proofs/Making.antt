@@ -1,5 +1,5 @@
 -- The places after a make: those from before with the new one, or those from before alone.
-use Rattle.std.proofs.Common.{◌≡◌, ◌++◌, ◌∷◌, ◌∙◌, [], ℕ, List, ap, sym, take}
+use Rattle.std.proofs.Common.{◌≡◌, ◌∷◌, ◌∙◌, [], ℕ, List, ap, sym, take}
 use Rattle.std.proofs.lemmas.List.{take_at}
 use Rattle.held_places.proofs.Claiming.{claimed_goes}
 use Rattle.held_places.proofs.Going.{many_cells}

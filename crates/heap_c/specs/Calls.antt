@@ -24,6 +24,7 @@ use Rattle.sorted_rule.specs.Sorts.{sort_of}
 use Rattle.sorted_rule.specs.declared.sorting.Sorting.{Sorting}
 use Rattle.heap_c.specs.declared.codes.Code.{Code}
 use Rattle.heap_c.specs.declared.codes.Code.TheVariants as code
+use Rattle.heap_c.specs.declared.turns.Turns.{Turns}
 use Rattle.heap_c.specs.declared.values.HeapVal.{HeapVal}
 use Rattle.heap_c.specs.Claiming.{HoldsOneMore}
 use Rattle.heap_c.specs.Holding.{Held}
@@ -99,22 +100,29 @@ module _ (old new : Held) where
       × (AreOfTheirSort old.sorts place given new.sorts × SortsStay old new)))
   ReadsAllFields place five (Err c) = NotReadAll old place five c × (new ≡ old)
 
+  abbrev pub ComparesPlaces : (one other : ℕ) → Result Bool Code → Type 0
+  ComparesPlaces one other (Ok same) = IsIn old
+      × ((same ≡ (target old.bound.seat.me one == target old.bound.seat.me other))
+      × ((new.sorts ≡ old.sorts) × KeepsPlaces old.bound new.bound))
+  ComparesPlaces one other (Err c) = NotCompared old one other c × (new ≡ old)
+
+module _ (t : Turns) (old new : Held) where
   -- One store, or one exchange for what was read just before; or each try was refused, since
   -- another thread wrote the field.
   abbrev pub WritesField : (place f : ℕ) → HeapVal → Code → Type 0
   WritesField place f val code.Ok = (new.sorts ≡ old.sorts) × ((value : Value)
-      × (MayWrite old place f value × (Means (held_of old) val value
+      × (MayWrite old place f value × (Means t (held_of old) val value
       × Wrote place f value old.bound new.bound)))
   WritesField place f val code.Moved = (new.sorts ≡ old.sorts) × ((value : Value)
-      × (MayWrite old place f value × (Means (held_of old) val value
+      × (MayWrite old place f value × (Means t (held_of old) val value
       × AllRefused place f value old.bound new.bound)))
-  WritesField place f val c = NotWritten old place f val c × (new ≡ old)
+  WritesField place f val c = NotWritten t old place f val c × (new ≡ old)
 
   -- One exchange, which found this.
   abbrev pub Exchanges : (place f : ℕ) → (was now : HeapVal) → (Value → Field → Type 0) → Type 0
   Exchanges place f was now Found = (new.sorts ≡ old.sorts) × ((expected value : Value)
-      × (MayWrite old place f value × (Means (held_of old) was expected
-      × (Means (held_of old) now value × ((found : Field) × (Found expected found
+      × (MayWrite old place f value × (Means t (held_of old) was expected
+      × (Means t (held_of old) now value × ((found : Field) × (Found expected found
       × Updated HoldsSorted no_field_is_fixed same_pass old.bound place f expected value found
       new.bound))))))
 
@@ -124,13 +132,7 @@ module _ (old new : Held) where
       (λ expected found. found ≡ field_at old.bound.seat.me.own.held expected)
   SwapsField place f was now code.Moved = Exchanges place f was now
       (λ expected found. same_field found (field_at old.bound.seat.me.own.held expected) ≡ false)
-  SwapsField place f was now c = NotSwapped old place f was now c × (new ≡ old)
-
-  abbrev pub ComparesPlaces : (one other : ℕ) → Result Bool Code → Type 0
-  ComparesPlaces one other (Ok same) = IsIn old
-      × ((same ≡ (target old.bound.seat.me one == target old.bound.seat.me other))
-      × ((new.sorts ≡ old.sorts) × KeepsPlaces old.bound new.bound))
-  ComparesPlaces one other (Err c) = NotCompared old one other c × (new ≡ old)
+  SwapsField place f was now c = NotSwapped t old place f was now c × (new ≡ old)
 
   -- A box of these fields was made of a cell that was claimed, and shown; or no cell was found.
   abbrev pub MakesCell : List HeapVal → Result ℕ Code → Type 0
@@ -138,16 +140,16 @@ module _ (old new : Held) where
       × ((HoldsOneMore old.bound new.bound
       × ((new.bound.seat.me.room ≡ old.bound.seat.me.room) × SortsStay old new))
       × ((holds_record new.sorts place ≡ false) × ((given : List Value)
-      × (AreMeant (held_of old) vals given × (AreFit old.sorts given × ((raw : Bound Sorting)
+      × (AreMeant t (held_of old) vals given × (AreFit old.sorts given × ((raw : Bound Sorting)
       × (HoldsRaw old.sorts raw place × Made place given raw new.bound)))))))))
   MakesCell vals (Err code.Wait) = IsIn old × HoldsTheSame old new
   MakesCell vals (Err code.Full) = IsIn old × HoldsTheSame old new
-  MakesCell vals (Err c) = NotMade old vals c × (new ≡ old)
+  MakesCell vals (Err c) = NotMade t old vals c × (new ≡ old)
 
 -- A cell is made, and the first places are kept with it alone; or no more than a make may do.
-abbrev pub MakesAt : (old new : Held) → (first : ℕ) → List HeapVal → Code → Type 0
-MakesAt old new first vals c =
+abbrev pub MakesAt : Turns → (old new : Held) → (first : ℕ) → List HeapVal → Code → Type 0
+MakesAt t old new first vals c =
     ((c ≡ code.Ok) × ((place : ℕ) × ((between : Held)
-    × (MakesCell old between vals (Ok place) × KeepsChosen between new first place 1 code.Ok))))
+    × (MakesCell t old between vals (Ok place) × KeepsChosen between new first place 1 code.Ok))))
     ⊎ (((c ≡ code.BadPlace) × (((first < 1) ⊎ (held_of old < first)) × (new ≡ old)))
-    ⊎ MakesCell old new vals (Err c))
+    ⊎ MakesCell t old new vals (Err c))

@@ -4,9 +4,10 @@ use Rattle.std.specs.Prelude.{ℕ, ◌≡◌, ◌<◌, ◌⊎◌, [], List}
 use Rattle.local_records.specs.Local.{IsNextTurn, Local}
 use Rattle.minor_heap.specs.Spans.{NoneMarked}
 use Rattle.heap_c.specs.Calls.{GoesOut, KeepsChosen, MakesAt}
-use Rattle.heap_c.specs.Holding.{Held, Owned}
+use Rattle.heap_c.specs.Holding.{Held, Mutator, Owned, StillLocal}
 use Rattle.heap_c.specs.declared.codes.Code.{Code}
 use Rattle.heap_c.specs.declared.codes.Code.TheVariants as code
+use Rattle.heap_c.specs.declared.turns.Turns.{Turns}
 use Rattle.heap_c.specs.declared.values.HeapVal.{HeapVal}
 
 -- no private record is left, and as many as before may be made
@@ -19,9 +20,13 @@ pub record IsCleared (old new : Local) : Type 0 where
   pub room : new.room ≡ old.room
   pub most : new.most ≡ old.most
 
--- of private records, where a call does this with the places
-abbrev pub OnHeld : (Held → Held → Code → Type 0) → Owned → Owned → Code → Type 0
-OnHeld Does old new c = Does old.held new.held c × (new.local ≡ old.local)
+-- of a call that does this, after which the same places are steady
+abbrev pub OnOwned : (Owned → Owned → Code → Type 0) → Mutator → Mutator → Code → Type 0
+OnOwned Does old new c = Does old.owned new.owned c × (new.steady ≡ old.steady)
+
+-- and that leaves private records alone
+abbrev pub OnHeld : (Held → Held → Code → Type 0) → Mutator → Mutator → Code → Type 0
+OnHeld Does old new c = Does old.owned.held new.owned.held c × StillLocal old new
 
 module _ (old new : Owned) where
   abbrev pub EndsAll : Code → Type 0
@@ -36,6 +41,6 @@ module _ (old new : Owned) where
   KeepsAbove n place count c = IsNamed n c
       ⊎ (KeepsChosen old.held new.held n place count c × (new.local ≡ old.local))
 
-  abbrev pub MakesAbove : (first : ℕ) → List HeapVal → Code → Type 0
-  MakesAbove first vals c = IsNamed first c
-      ⊎ (MakesAt old.held new.held first vals c × (new.local ≡ old.local))
+  abbrev pub MakesAbove : Turns → (first : ℕ) → List HeapVal → Code → Type 0
+  MakesAbove t first vals c = IsNamed first c
+      ⊎ (MakesAt t old.held new.held first vals c × (new.local ≡ old.local))

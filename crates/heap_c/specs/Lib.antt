@@ -11,3 +11,5 @@ pub mod Owning
 pub mod Records
 pub mod Refusing
 pub mod Seating
+pub mod Turns
+pub mod Walking

@@ -1,12 +1,12 @@
 -- What the calls that move private records answer, code by code, and what they leave.
 -- Source: this project's.
-use Rattle.std.specs.Prelude.{ℕ, ◌≡◌, ◌<◌, ◌≤◌, ◌+◌, ◌/◌, ◌⊎◌, Bool, true, false, List, [], ◌∷◌, Ok}
-use Rattle.std.specs.Prelude.{Err, length, max, slice_index_or}
+use Rattle.std.specs.Prelude.{ℕ, ◌≡◌, ◌≢◌, ◌<◌, ◌≤◌, ◌+◌, ◌/◌, ◌⊎◌, Bool, true, false, List, []}
+use Rattle.std.specs.Prelude.{◌∷◌, Ok, Err, length, max, min, slice_index_or}
 use Rattle.std.specs.List.{SameBelow}
 use Rattle.std.specs.declared.result.Result.{Result}
 use Rattle.aged_nursery.specs.Survivors.{AreSurvivors}
 use Rattle.heap_rule.specs.Lore.{known_at}
-use Rattle.local_records.specs.Local.{IsNextTurn, Local}
+use Rattle.local_records.specs.Local.{Local}
 use Rattle.local_records.specs.Settling.{RootsSettled, cell_count, shared_from}
 use Rattle.local_references.specs.Roots.{RootsKeep, private_of}
 use Rattle.local_references.specs.declared.roots.Root.{Root}
@@ -20,7 +20,7 @@ use Rattle.promotion.specs.Sharing.{known_terms}
 use Rattle.record_copying.specs.Copies.{CopiesUpTo, KeepCopies}
 use Rattle.sorted_boxes.specs.Sorts.{SortList, holds_record}
 use Rattle.heap_c.specs.Calls.{IsIn, KeepsChosen}
-use Rattle.heap_c.specs.Holding.{Held, Owned}
+use Rattle.heap_c.specs.Holding.{Held, Mutator, Owned}
 use Rattle.heap_c.specs.Records.{NamesRecord}
 use Rattle.heap_c.specs.Refusing.{IsOut, NoRoomFor, held_of}
 use Rattle.heap_c.specs.declared.codes.Code.{Code}
@@ -103,7 +103,7 @@ module _ (m later : Owned) where
     pub empty : later.local.records ≡ []
     pub none : NoneMarked later.local.copied
     pub aged : later.local.aged ≡ 0
-    pub turn : IsNextTurn m.local.turn later.local.turn
+    pub turn : later.local.turn ≡ m.local.turn + 1
     pub room : later.local.room ≡ m.local.room
     pub most : later.local.most ≡ m.local.most
 
@@ -122,6 +122,7 @@ module _ (m later : Owned) (base most : ℕ) where
   SharesRoots code.NotIn = IsOut m.held × (later ≡ m)
   SharesRoots code.BadPlace = ((base < 1) ⊎ (held_of m.held < base)) × (later ≡ m)
   SharesRoots code.BadSize = (most ≡ 0) × (later ≡ m)
+  SharesRoots code.Spent = (m.local.turn ≡ 4294967295) × (later ≡ m)
   SharesRoots _ = ⊥
 
 -- Records that no root leads to went, and the roots moved with theirs.
@@ -179,3 +180,15 @@ module _ (m later : Owned) (base records places : ℕ) where
   MakesRoom code.BadSize = (m.local.room < records) × (later ≡ m)
   MakesRoom code.Spent = (m.local.turn ≡ 4294967295) × (later ≡ m)
   MakesRoom c = SharesFor m later base places c
+
+-- Where the turn counts on, records may have moved, and places from the base on: of the places that
+-- were steady those below it are.
+abbrev pub Steadies : (base : ℕ) → (m later : Mutator) → Type 0
+Steadies base m later =
+    ((later.owned.local.turn ≡ m.owned.local.turn) × (later.steady ≡ m.steady))
+    ⊎ ((later.owned.local.turn ≢ m.owned.local.turn) × (later.steady ≡ min m.steady base))
+
+-- of a call that does this and may move places from a base on
+abbrev pub OnPlaces : (base : ℕ) → (Owned → Owned → Code → Type 0) → Mutator → Mutator → Code
+    → Type 0
+OnPlaces base Does m later c = Does m.owned later.owned c × Steadies base m later

@@ -4,7 +4,8 @@ use Rattle.std.specs.Prelude.{ℕ, ◌≡◌, ◌<◌, ◌≤◌, ◌⊎◌, Opt
 use Rattle.heap_c.specs.Keeping.{Keeps}
 use Rattle.heap_c.specs.declared.codes.Code.{Code}
 use Rattle.heap_c.specs.declared.codes.Code.TheVariants as code
-use Rattle.heap_c.specs.Holding.{Owned}
+use Rattle.heap_c.specs.Holding.{Mutator}
+use Rattle.heap_c.specs.Refusing.{IsOut}
 
 -- of a call that needs no more than a handle
 abbrev pub when_there : Option Keeps → Code
@@ -33,10 +34,20 @@ Opens cells mutators stack boxes was given code.NoMemory =
     (was ≡ None) × (IsSize cells mutators stack boxes × (given ≡ was))
 Opens cells mutators stack boxes was given _ = ⊥
 
+-- a mutator that was just seated: it is out, may hold so many places, and has no room for private
+-- records, and no place has moved
+pub record IsFresh (places : ℕ) (m : Mutator) : Type 0 where
+  pub out : IsOut m.owned.held
+  pub room : m.owned.held.bound.seat.me.room ≡ places
+  pub records : m.owned.local.room ≡ 0
+  pub turn : m.owned.local.turn ≡ 0
+  pub steady : m.steady ≡ 4294967296
+
 -- of a seat that is asked for
-abbrev pub Seats : (room : ℕ) → Keeps → (was given : Option Owned) → Code → Type 0
+abbrev pub Seats : (room : ℕ) → Keeps → (was given : Option Mutator) → Code → Type 0
 Seats room k was given code.Ok =
-    (was ≡ None) × ((8 ≤ room) × ((k.given < k.heap.shape.mutators) × IsSome given))
+    (was ≡ None) × ((8 ≤ room) × ((k.given < k.heap.shape.mutators)
+    × ((m : Mutator) × ((given ≡ Some m) × IsFresh room m))))
 Seats room k was given code.NoSeat = (k.heap.shape.mutators ≤ k.given) × (given ≡ was)
 Seats room k was given code.NotZero = IsSome was × (given ≡ was)
 Seats room k was given code.BadSize = (room < 8) × (given ≡ was)

@@ -1,40 +1,64 @@
 //! The calls of a mutator that is in.
-ghost use Rattle.std.specs.Prelude.{◌≡◌, length};
-ghost use Rattle.heap_c.specs.Calls.{SwapsField, WritesField};
-ghost use Rattle.heap_c.specs.Keeps.{KeepsAbove, OnHeld};
-ghost use Rattle.heap_c.specs.Handles.{AreVals, GivesAll, GivesKept, GivesPlace, GivesSame};
-ghost use Rattle.heap_c.specs.Handles.{GivesVal};
-ghost use Rattle.heap_c.specs.Handles.{Numbered, OfHandle, OfHandleOr};
+ghost use Rattle.std.specs.Prelude.{◌≡◌};
+ghost use Rattle.heap_c.specs.Handles.{GivesAll, GivesKept, GivesNumber, GivesPlace, GivesSame};
+ghost use Rattle.heap_c.specs.Handles.{GivesVal, KeepsAt, Numbered, OfHandle, OfHandleOr};
+ghost use Rattle.heap_c.specs.Handles.{SwapsAt, WritesAt};
 
 use crate::codes::Code;
 use crate::handle::HeapMut;
-use crate::values::{HeapVal, val_of};
-use mutator_seat::Value;
+use crate::values::{HeapVal, give_five, val_of, vals_of};
 
 fn keep(mutator: &mut HeapMut, n: usize, place: usize, count: usize) -> Code
-    ensures kept { OfHandle (λ old new c. KeepsAbove old new n place count c) mutator.old.mine
-        mutator.new.mine result }
+    ensures kept { OfHandle (KeepsAt n place count) mutator.old.mine mutator.new.mine result }
 {
     match mutator.mine() {
         None => Code::NoHandle,
-        Some(mine) => mine.keep(n, place, count),
+        Some(mine) => {
+            if count == 0 {
+                return mine.keep(n, 0, 0);
+            }
+            match mine.place(place) {
+                None => Code::BadPlace,
+                Some(at) => mine.keep(n, at, count),
+            }
+        }
+    }
+}
+
+fn place(mutator: &mut HeapMut, i: usize, place: &mut usize) -> Code
+    ensures told { OfHandleOr (place.new ≡ place.old)
+        (λ old new c. GivesNumber i place.old place.new old new c)
+        mutator.old.mine mutator.new.mine result }
+{
+    match mutator.mine() {
+        None => Code::NoHandle,
+        Some(mine) => match mine.number(i) {
+            Ok(n) => {
+                *place = n;
+                Code::Ok
+            }
+            Err(code) => code,
+        },
     }
 }
 
 fn make(mutator: &mut HeapMut, vals: &[HeapVal], place: &mut usize) -> Code
     ensures made { OfHandleOr (place.new ≡ place.old)
-        (OnHeld (λ old new c. GivesPlace vals.now place.old place.new old new c))
+        (λ old new c. GivesPlace vals.now place.old place.new old new c)
         mutator.old.mine mutator.new.mine result }
 {
     match mutator.mine() {
         None => Code::NoHandle,
-        Some(mine) => match mine.make(vals) {
-            Ok(at) => {
-                *place = at;
-                Code::Ok
+        Some(mine) => {
+            let turns = mine.turns();
+            match mine.make(vals) {
+                Ok(at) => {
+                    *place = turns.number(at) as usize;
+                    Code::Ok
+                }
+                Err(code) => code,
             }
-            Err(code) => code,
-        },
+        }
     }
 }
 
@@ -46,9 +70,10 @@ fn make_at(mutator: &mut HeapMut, first: usize, vals: &[HeapVal], place: &mut us
     match mutator.mine() {
         None => Code::NoHandle,
         Some(mine) => {
+            let turns = mine.turns();
             let code = mine.make_at(first, vals);
             if code == Code::Ok {
-                *place = first;
+                *place = turns.number(first) as usize;
             }
             code
         }
@@ -57,101 +82,125 @@ fn make_at(mutator: &mut HeapMut, first: usize, vals: &[HeapVal], place: &mut us
 
 fn read(mutator: &mut HeapMut, place: usize, field: usize, out: &mut HeapVal) -> Code
     ensures read { OfHandleOr (out.new ≡ out.old)
-        (OnHeld (λ old new c. GivesVal place field out.old out.new old new c))
+        (λ old new c. GivesVal place field out.old out.new old new c)
         mutator.old.mine mutator.new.mine result }
 {
     match mutator.mine() {
         None => Code::NoHandle,
-        Some(mine) => match mine.read(place, field) {
-            Ok(value) => {
-                *out = val_of(value);
-                Code::Ok
+        Some(mine) => {
+            let turns = mine.turns();
+            match turns.place(place as u64) {
+                None => Code::BadPlace,
+                Some(at) => match mine.read(at, field) {
+                    Ok(value) => {
+                        *out = val_of(turns, value);
+                        Code::Ok
+                    }
+                    Err(code) => code,
+                },
             }
-            Err(code) => code,
-        },
+        }
     }
-}
-
-/// Hands five values out.
-fn give_five(values: [Value; 5], out: &mut [HeapVal])
-    requires five { length out.old ≡ 5 }
-    ensures given { AreVals out.new values }
-{
-    out[0] = val_of(values[0]);
-    out[1] = val_of(values[1]);
-    out[2] = val_of(values[2]);
-    out[3] = val_of(values[3]);
-    out[4] = val_of(values[4]);
 }
 
 fn read_all(mutator: &mut HeapMut, place: usize, out: &mut [HeapVal]) -> Code
     ensures read { OfHandleOr (out.new ≡ out.old)
-        (OnHeld (λ old new c. GivesAll place out.old out.new old new c))
+        (λ old new c. GivesAll place out.old out.new old new c)
         mutator.old.mine mutator.new.mine result }
 {
     match mutator.mine() {
         None => Code::NoHandle,
-        Some(mine) => match mine.read_all(place, out.len()) {
-            Ok(values) => {
-                give_five(values, out);
-                Code::Ok
+        Some(mine) => {
+            let turns = mine.turns();
+            match turns.place(place as u64) {
+                None => Code::BadPlace,
+                Some(at) => match mine.read_all(at, out.len()) {
+                    Ok(values) => {
+                        give_five(vals_of(turns, values), out);
+                        Code::Ok
+                    }
+                    Err(code) => code,
+                },
             }
-            Err(code) => code,
-        },
+        }
     }
 }
 
 fn write(mutator: &mut HeapMut, place: usize, field: usize, val: HeapVal) -> Code
-    ensures wrote { OfHandle (OnHeld (λ old new c. WritesField old new place field val c))
+    ensures wrote { OfHandle (WritesAt place field val)
         mutator.old.mine mutator.new.mine result }
 {
     match mutator.mine() {
         None => Code::NoHandle,
-        Some(mine) => mine.write(place, field, val),
+        Some(mine) => match mine.place(place) {
+            None => Code::BadPlace,
+            Some(at) => mine.write(at, field, val),
+        },
     }
 }
 
 fn swap(mutator: &mut HeapMut, place: usize, field: usize, was: HeapVal, now: HeapVal) -> Code
-    ensures swapped { OfHandle (OnHeld (λ old new c. SwapsField old new place field was now c))
+    ensures swapped { OfHandle (SwapsAt place field was now)
         mutator.old.mine mutator.new.mine result }
 {
     match mutator.mine() {
         None => Code::NoHandle,
-        Some(mine) => mine.swap(place, field, was, now),
+        Some(mine) => match mine.place(place) {
+            None => Code::BadPlace,
+            Some(at) => mine.swap(at, field, was, now),
+        },
     }
 }
 
 fn same(mutator: &mut HeapMut, one: usize, other: usize, same: &mut i32) -> Code
     ensures same { OfHandleOr (same.new ≡ same.old)
-        (OnHeld (λ old new c. GivesSame one other same.old same.new old new c))
+        (λ old new c. GivesSame one other same.old same.new old new c)
         mutator.old.mine mutator.new.mine result }
 {
     match mutator.mine() {
         None => Code::NoHandle,
-        Some(mine) => match mine.is_same(one, other) {
-            Ok(is_same) => {
-                *same = if is_same { 1 } else { 0 };
-                Code::Ok
+        Some(mine) => {
+            let Some(first) = mine.place(one) else {
+                return Code::BadPlace;
+            };
+            let Some(second) = mine.place(other) else {
+                return Code::BadPlace;
+            };
+            match mine.is_same(first, second) {
+                Ok(is_same) => {
+                    *same = if is_same { 1 } else { 0 };
+                    Code::Ok
+                }
+                Err(code) => code,
             }
-            Err(code) => code,
-        },
+        }
     }
 }
 
 /// Keeps the first n places, and then so many from a place on.
 #[unsafe(no_mangle)]
 pub extern "C" fn heap_keep(mutator: &mut HeapMut, n: usize, place: usize, count: usize) -> i32
-    ensures kept { Numbered result (OfHandle (λ old new c. KeepsAbove old new n place count c)
-        mutator.old.mine mutator.new.mine) }
+    ensures kept { Numbered result (OfHandle (KeepsAt n place count) mutator.old.mine
+        mutator.new.mine) }
 {
     keep(mutator, n, place, count).number()
+}
+
+/// The number of a held place, counted from the anchor's.
+#[unsafe(no_mangle)]
+pub extern "C" fn heap_place(mutator: &mut HeapMut, i: usize, place: &mut usize) -> i32
+    ensures told { Numbered result (OfHandleOr (place.new ≡ place.old)
+        (λ old new c. GivesNumber i place.old place.new old new c)
+        mutator.old.mine mutator.new.mine) }
+{
+    self::place(mutator, i, place).number()
 }
 
 /// Makes a cell with these values, the other fields null.
 #[unsafe(no_mangle)]
 pub extern "C" fn heap_make(mutator: &mut HeapMut, vals: &[HeapVal], place: &mut usize) -> i32
     ensures made { Numbered result (OfHandleOr (place.new ≡ place.old)
-        (OnHeld (λ old new c. GivesPlace vals.now place.old place.new old new c))
+        (λ old new c. GivesPlace vals.now place.old place.new old new c)
         mutator.old.mine mutator.new.mine) }
 {
     make(mutator, vals, place).number()
@@ -181,7 +230,7 @@ pub extern "C" fn heap_read(
     out: &mut HeapVal,
 ) -> i32
     ensures read { Numbered result (OfHandleOr (out.new ≡ out.old)
-        (OnHeld (λ old new c. GivesVal place field out.old out.new old new c))
+        (λ old new c. GivesVal place field out.old out.new old new c)
         mutator.old.mine mutator.new.mine) }
 {
     read(mutator, place, field, out).number()
@@ -191,7 +240,7 @@ pub extern "C" fn heap_read(
 #[unsafe(no_mangle)]
 pub extern "C" fn heap_read_all(mutator: &mut HeapMut, place: usize, out: &mut [HeapVal]) -> i32
     ensures read { Numbered result (OfHandleOr (out.new ≡ out.old)
-        (OnHeld (λ old new c. GivesAll place out.old out.new old new c))
+        (λ old new c. GivesAll place out.old out.new old new c)
         mutator.old.mine mutator.new.mine) }
 {
     read_all(mutator, place, out).number()
@@ -200,8 +249,7 @@ pub extern "C" fn heap_read_all(mutator: &mut HeapMut, place: usize, out: &mut [
 /// Stores a value in a field, whatever stands there.
 #[unsafe(no_mangle)]
 pub extern "C" fn heap_write(mutator: &mut HeapMut, place: usize, field: usize, val: HeapVal) -> i32
-    ensures wrote { Numbered result (OfHandle
-        (OnHeld (λ old new c. WritesField old new place field val c))
+    ensures wrote { Numbered result (OfHandle (WritesAt place field val)
         mutator.old.mine mutator.new.mine) }
 {
     write(mutator, place, field, val).number()
@@ -216,8 +264,7 @@ pub extern "C" fn heap_swap(
     was: HeapVal,
     now: HeapVal,
 ) -> i32
-    ensures swapped { Numbered result (OfHandle
-        (OnHeld (λ old new c. SwapsField old new place field was now c))
+    ensures swapped { Numbered result (OfHandle (SwapsAt place field was now)
         mutator.old.mine mutator.new.mine) }
 {
     swap(mutator, place, field, was, now).number()
@@ -232,7 +279,7 @@ pub extern "C" fn heap_same(
     is_same: &mut i32,
 ) -> i32
     ensures same { Numbered result (OfHandleOr (is_same.new ≡ is_same.old)
-        (OnHeld (λ old new c. GivesSame one other is_same.old is_same.new old new c))
+        (λ old new c. GivesSame one other is_same.old is_same.new old new c)
         mutator.old.mine mutator.new.mine) }
 {
     same(mutator, one, other, is_same).number()

@@ -1,6 +1,7 @@
 //! What the collector's handle owns: its seat, the mark stack, and a share of the heap.
 ghost use Rattle.std.specs.Prelude.{◌≡◌, ◌<◌, ◌≤◌, ◌+◌, IfOk, IsTrue, ◌↔◌, Some};
 ghost use Rattle.heap_c.specs.Keeping.{IsKeeping};
+ghost use Rattle.heap_c.specs.Seating.{IsFresh};
 
 use crate::looking::{HeapStats, number_of};
 use crate::mine::Mine;
@@ -89,6 +90,7 @@ impl Collecting {
     pub(crate) fn split(&mut self, alloc: Global, room: u32) -> Result<Mine, NoMemory>
         requires left { self.old.given < self.old.heap.shape.mutators }
         requires room { 1 ≤ room }
+        ensures fresh { IfOk result (IsFresh room) }
     {
         let heap = Arc::try_clone(&self.heap)?;
         let sharing = Arc::try_clone(&self.sharing)?;

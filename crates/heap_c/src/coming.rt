@@ -2,7 +2,7 @@
 ghost use Rattle.std.specs.Prelude.{◌≡◌, None, pos};
 ghost use Rattle.heap_c.specs.Answers.{when_in, when_out};
 ghost use Rattle.heap_c.specs.Calls.{ComesIn, ReachesSafePoint};
-ghost use Rattle.heap_c.specs.Keeps.{EndsAll, OnHeld};
+ghost use Rattle.heap_c.specs.Keeps.{EndsAll, OnHeld, OnOwned};
 ghost use Rattle.heap_c.specs.Handles.{Numbered, OfHandle, number_of, places_free, places_held};
 ghost use Rattle.heap_c.specs.declared.codes.Code.TheVariants as code;
 
@@ -21,7 +21,7 @@ fn begin(mutator: &mut HeapMut) -> Code
 
 fn end(mutator: &mut HeapMut) -> Code
     ensures answer { result ≡ when_in mutator.old.mine }
-    ensures ended { OfHandle EndsAll mutator.old.mine mutator.new.mine result }
+    ensures ended { OfHandle (OnOwned EndsAll) mutator.old.mine mutator.new.mine result }
 {
     match mutator.mine() {
         None => Code::NoHandle,
@@ -74,7 +74,7 @@ pub extern "C" fn heap_begin(mutator: &mut HeapMut) -> i32
 /// Goes out. The mutator holds nothing.
 #[unsafe(no_mangle)]
 pub extern "C" fn heap_end(mutator: &mut HeapMut) -> i32
-    ensures ended { Numbered result (OfHandle EndsAll mutator.old.mine mutator.new.mine) }
+    ensures ended { Numbered result (OfHandle (OnOwned EndsAll) mutator.old.mine mutator.new.mine) }
 {
     end(mutator).number()
 }

@@ -10,6 +10,7 @@ ghost use Rattle.sorted_boxes.specs.Sorts.{holds_record};
 
 use crate::codes::Code;
 use crate::rule::Rule;
+use crate::turns::Turns;
 use crate::values::{FIELDS, FIRST, HeapVal, is_field, is_place, value_of};
 use heap_table::CellHeap;
 use mutator_events::MutSeat;
@@ -96,6 +97,7 @@ pub(crate) fn write(
     heap: &CellHeap<Rule>,
     seat: &mut MutSeat<Rule>,
     sorts: &Sorts,
+    turns: Turns,
     place: usize,
     field: usize,
     val: HeapVal,
@@ -105,7 +107,7 @@ pub(crate) fn write(
     ensures records { StillRecords seat.old.me.known seat.new.me.known }
     ensures longer { length seat.old.me.known ≤ length seat.new.me.known }
     ensures inside { seat.new.me.presence.inside ≡ seat.old.me.presence.inside }
-    ensures wrote { WritesField (held_by heap.now seat.old sorts.now)
+    ensures wrote { WritesField turns (held_by heap.now seat.old sorts.now)
         (held_by heap.now seat.new sorts.now) place field val result }
 {
     if !seat.is_in() {
@@ -120,7 +122,7 @@ pub(crate) fn write(
     if seat.room() < 1 {
         return Code::NoRoom;
     }
-    let Some(value) = value_of(val, seat.held_len()) else {
+    let Some(value) = value_of(turns, val, seat.held_len()) else {
         return Code::BadValue;
     };
     if !sorts.fits(place, field, value) {
@@ -136,6 +138,7 @@ pub(crate) fn swap(
     heap: &CellHeap<Rule>,
     seat: &mut MutSeat<Rule>,
     sorts: &Sorts,
+    turns: Turns,
     place: usize,
     field: usize,
     was: HeapVal,
@@ -146,7 +149,7 @@ pub(crate) fn swap(
     ensures records { StillRecords seat.old.me.known seat.new.me.known }
     ensures longer { length seat.old.me.known ≤ length seat.new.me.known }
     ensures inside { seat.new.me.presence.inside ≡ seat.old.me.presence.inside }
-    ensures swapped { SwapsField (held_by heap.now seat.old sorts.now)
+    ensures swapped { SwapsField turns (held_by heap.now seat.old sorts.now)
         (held_by heap.now seat.new sorts.now) place field was now result }
 {
     if !seat.is_in() {
@@ -158,10 +161,10 @@ pub(crate) fn swap(
     if !is_field(field) {
         return Code::BadField;
     }
-    let Some(expected) = value_of(was, seat.held_len()) else {
+    let Some(expected) = value_of(turns, was, seat.held_len()) else {
         return Code::BadValue;
     };
-    let Some(value) = value_of(now, seat.held_len()) else {
+    let Some(value) = value_of(turns, now, seat.held_len()) else {
         return Code::BadValue;
     };
     if !sorts.fits(place, field, value) {

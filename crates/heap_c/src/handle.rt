@@ -1,7 +1,7 @@
 //! A handle in the memory of C: one pointer to what it owns, or null.
 ghost use Rattle.std.specs.Prelude.{◌≡◌, MatchOption, None, Option, Some};
 ghost use Rattle.heap_c.specs.Owning.{mine_coded, owns_mine};
-ghost use Rattle.heap_c.specs.Holding.{Owned};
+ghost use Rattle.heap_c.specs.Holding.{Mutator};
 
 use crate::mine::Mine;
 use crate::parts::Parts;
@@ -20,7 +20,7 @@ pub struct Opaque {
 pub struct HeapMut {
     ptr: *mut Opaque,
     alloc: Global,
-    pub ghost mine: { Option Owned } by { mine_coded },
+    pub ghost mine: { Option Mutator } by { mine_coded },
 }
 
 impl Model for HeapMut {

@@ -8,10 +8,11 @@
 //! A handle may go to another thread, and is used by one call at a time: `Send` is proved of both.
 //!
 //! Reading order: `rule`, `sharing`, `claiming`, `mine`, `parts`, `handle`, `works`, `collecting`,
-//! `keeper`, `codes`, `values`; `using` and `fields`, which work on a seat; `records`, `rooting`,
-//! `cells` and `moving`, on private records; `owned`, which keeps these in force; then the calls,
-//! `opening`, `coming`, `calls`, `private`, `moves`, `looking`. Of the definitions: Owning,
-//! Holding, Keeping, Refusing, Calls, Records, Moving, Keeps, Handles, Seating.
+//! `keeper`, `codes`, `turns`, `values`; `using` and `fields`, which work on a seat; `records`,
+//! `rooting`, `cells` and `moving`, on private records; `owned`, which keeps these in force;
+//! `walking`, which reads along a path; then the calls, `opening`, `coming`, `calls`, `private`,
+//! `moves`, `looking`. Of the definitions: Owning, Turns, Holding, Keeping, Refusing, Calls,
+//! Records, Moving, Keeps, Walking, Handles, Seating.
 #![tactic(auto)]
 
 mod calls;
@@ -35,8 +36,10 @@ mod records;
 mod rooting;
 mod rule;
 mod sharing;
+mod turns;
 mod using;
 mod values;
+mod walking;
 mod works;
 
 pub use codes::Code;

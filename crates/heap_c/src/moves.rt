@@ -1,14 +1,15 @@
 //! The calls that move private records, or let places go.
 ghost use Rattle.std.specs.Prelude.{◌≡◌};
 ghost use Rattle.heap_c.specs.Handles.{GivesCopy, Numbered, OfHandle, OfHandleOr};
-ghost use Rattle.heap_c.specs.Moving.{MakesRoom, ReleasesPlaces, SharesRoots};
+ghost use Rattle.heap_c.specs.Keeps.{OnOwned};
+ghost use Rattle.heap_c.specs.Moving.{MakesRoom, OnPlaces, ReleasesPlaces, SharesRoots};
 
 use crate::codes::Code;
 use crate::handle::HeapMut;
 use crate::values::HeapVal;
 
 fn release(mutator: &mut HeapMut, n: usize) -> Code
-    ensures released { OfHandle (λ old new c. ReleasesPlaces old new n c) mutator.old.mine
+    ensures released { OfHandle (OnOwned (λ old new c. ReleasesPlaces old new n c)) mutator.old.mine
         mutator.new.mine result }
 {
     match mutator.mine() {
@@ -24,19 +25,22 @@ fn promote(mutator: &mut HeapMut, val: HeapVal, most: usize, place: &mut usize) 
 {
     match mutator.mine() {
         None => Code::NoHandle,
-        Some(mine) => match mine.promote(val, most) {
-            Ok(at) => {
-                *place = at;
-                Code::Ok
+        Some(mine) => {
+            let turns = mine.turns();
+            match mine.promote(val, most) {
+                Ok(at) => {
+                    *place = turns.number(at) as usize;
+                    Code::Ok
+                }
+                Err(code) => code,
             }
-            Err(code) => code,
-        },
+        }
     }
 }
 
 fn share(mutator: &mut HeapMut, base: usize, most: usize) -> Code
-    ensures shared { OfHandle (λ old new c. SharesRoots old new base most c) mutator.old.mine
-        mutator.new.mine result }
+    ensures shared { OfHandle (OnPlaces base (λ old new c. SharesRoots old new base most c))
+        mutator.old.mine mutator.new.mine result }
 {
     match mutator.mine() {
         None => Code::NoHandle,
@@ -45,8 +49,8 @@ fn share(mutator: &mut HeapMut, base: usize, most: usize) -> Code
 }
 
 fn reserve(mutator: &mut HeapMut, base: usize, records: u32, places: usize) -> Code
-    ensures reserved { OfHandle (λ old new c. MakesRoom old new base records places c)
-        mutator.old.mine mutator.new.mine result }
+    ensures reserved { OfHandle (OnPlaces base (λ old new c. MakesRoom old new base records
+        places c)) mutator.old.mine mutator.new.mine result }
 {
     match mutator.mine() {
         None => Code::NoHandle,
@@ -57,7 +61,7 @@ fn reserve(mutator: &mut HeapMut, base: usize, records: u32, places: usize) -> C
 /// Keeps the first n places, and those that private records, copies and roots name.
 #[unsafe(no_mangle)]
 pub extern "C" fn heap_release(mutator: &mut HeapMut, n: usize) -> i32
-    ensures released { Numbered result (OfHandle (λ old new c. ReleasesPlaces old new n c)
+    ensures released { Numbered result (OfHandle (OnOwned (λ old new c. ReleasesPlaces old new n c))
         mutator.old.mine mutator.new.mine) }
 {
     release(mutator, n).number()
@@ -83,7 +87,8 @@ pub extern "C" fn heap_promote(
 /// the first `base` places are held and then the roots, and no private record is left.
 #[unsafe(no_mangle)]
 pub extern "C" fn heap_share(mutator: &mut HeapMut, base: usize, most: usize) -> i32
-    ensures shared { Numbered result (OfHandle (λ old new c. SharesRoots old new base most c)
+    ensures shared { Numbered result (OfHandle (OnPlaces base (λ old new c. SharesRoots old new
+        base most c))
         mutator.old.mine mutator.new.mine) }
 {
     share(mutator, base, most).number()
@@ -97,8 +102,8 @@ pub extern "C" fn heap_reserve(
     records: u32,
     places: usize,
 ) -> i32
-    ensures reserved { Numbered result (OfHandle (λ old new c. MakesRoom old new base records
-        places c) mutator.old.mine mutator.new.mine) }
+    ensures reserved { Numbered result (OfHandle (OnPlaces base (λ old new c. MakesRoom old new
+        base records places c)) mutator.old.mine mutator.new.mine) }
 {
     reserve(mutator, base, records, places).number()
 }

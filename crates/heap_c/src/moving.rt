@@ -233,6 +233,7 @@ fn settle(
     requires base { base ≤ length seat.old.me.own.held }
     requires room { length seat.old.me.own.held + length local.old.roots ≤ seat.old.me.room }
     requires few { seat.old.me.room < 18446744073709551616 }
+    requires turn { local.old.turn ≢ 4294967295 }
     requires done { All (IsCopied local.old.copied) (private_of local.old.roots) }
     ensures owned { IsOwned heap.now seat.new sorts.new local.new }
     ensures settles { SettlesRoots (owned_by heap.now seat.old sorts.old local.old)
@@ -243,6 +244,14 @@ fn settle(
     local.settle(heap, seat, base);
     let _held = seat.held_len();
     sorts.keep(base, first, end - first);
+}
+
+/// Whether records can move no more, as no turn is left.
+fn is_spent(local: &LocalRecords) -> bool
+    ensures yes { OnTrue result (local.now.turn ≡ 4294967295) }
+    ensures no { OnFalse result (local.now.turn ≢ 4294967295) }
+{
+    local.give(MinorRef { number: 0 }).turn == u32::MAX
 }
 
 /// Copies private records that the roots lead to, and at most so many. Once all have been copied
@@ -275,6 +284,9 @@ pub(crate) fn share(
     }
     if most == 0 {
         return Code::BadSize;
+    }
+    if is_spent(local) {
+        return Code::Spent;
     }
     let free = seat.room();
     let roots = local.roots_len();

@@ -1,14 +1,16 @@
 //! The calls of private records: what makes and reads them, and the stack of roots.
-ghost use Rattle.std.specs.Prelude.{◌≡◌, ◌∷◌, [], length};
+ghost use Rattle.std.specs.Prelude.{◌≡◌, ◌∷◌, []};
 ghost use Rattle.heap_c.specs.Handles.{GivesAllGot, GivesGot, GivesRecord, GivesRoot, IsGiven};
-ghost use Rattle.heap_c.specs.Handles.{MakesOf, Numbered, OfHandle, OfHandleOr, number_of};
-ghost use Rattle.heap_c.specs.Handles.{roots_kept};
-ghost use Rattle.heap_c.specs.Records.{GivesRoom, PopsRoots, PushesRoot, SetsRoot};
+ghost use Rattle.heap_c.specs.Handles.{MakesOf, Numbered, OfHandle, OfHandleOr};
+ghost use Rattle.heap_c.specs.Handles.{GivesWalked, PopsOf, PushesOf, SetsOf, roots_kept};
+ghost use Rattle.heap_c.specs.Keeps.{OnOwned};
+ghost use Rattle.heap_c.specs.Records.{GivesRoom};
 
 use crate::codes::Code;
 use crate::handle::HeapMut;
 use crate::mine::Mine;
-use crate::values::{HeapVal, NONE};
+use crate::values::{HeapVal, NONE, give_five};
+use crate::walking;
 use std::alloc::Global;
 
 /// How many private records a mutator may have.
@@ -19,7 +21,7 @@ const MOST_ROOTS: u32 = 1_048_576;
 
 /// Gives room for private records to a mutator.
 fn give_room(alloc: Global, mine: &mut Mine, records: u32, roots: u32) -> Code
-    ensures given { GivesRoom records roots mine.old mine.new result }
+    ensures given { OnOwned (GivesRoom records roots) mine.old mine.new result }
 {
     if mine.is_in() {
         return Code::IsIn;
@@ -37,7 +39,8 @@ fn give_room(alloc: Global, mine: &mut Mine, records: u32, roots: u32) -> Code
 }
 
 fn records(alloc: Global, mutator: &mut HeapMut, records: u32, roots: u32) -> Code
-    ensures given { OfHandle (GivesRoom records roots) mutator.old.mine mutator.new.mine result }
+    ensures given { OfHandle (OnOwned (GivesRoom records roots)) mutator.old.mine
+        mutator.new.mine result }
 {
     match mutator.mine() {
         None => Code::NoHandle,
@@ -84,14 +87,6 @@ fn get(mutator: &mut HeapMut, of: HeapVal, field: usize, out: &mut HeapVal) -> C
     }
 }
 
-/// Hands five values out.
-fn give_five(vals: [HeapVal; 5], out: &mut [HeapVal])
-    requires five { length out.old ≡ 5 }
-    ensures given { out.new ≡ vals }
-{
-    out.copy_from_slice(&vals);
-}
-
 fn get_all(mutator: &mut HeapMut, of: HeapVal, out: &mut [HeapVal]) -> Code
     ensures got { OfHandleOr (out.new ≡ out.old)
         (λ old new c. GivesAllGot of out.old out.new old new c)
@@ -109,8 +104,25 @@ fn get_all(mutator: &mut HeapMut, of: HeapVal, out: &mut [HeapVal]) -> Code
     }
 }
 
+fn walk(mutator: &mut HeapMut, of: HeapVal, path: &[u8], out: &mut HeapVal) -> Code
+    ensures walked { OfHandleOr (out.new ≡ out.old)
+        (λ old new c. GivesWalked of path.now out.old out.new old new c)
+        mutator.old.mine mutator.new.mine result }
+{
+    match mutator.mine() {
+        None => Code::NoHandle,
+        Some(mine) => match walking::walk(mine, of, path) {
+            Ok(val) => {
+                *out = val;
+                Code::Ok
+            }
+            Err(code) => code,
+        },
+    }
+}
+
 fn push(mutator: &mut HeapMut, val: HeapVal) -> Code
-    ensures pushed { OfHandle (λ old new c. PushesRoot old new.local val c × (new.held ≡ old.held))
+    ensures pushed { OfHandle (PushesOf val)
         mutator.old.mine mutator.new.mine result }
 {
     match mutator.mine() {
@@ -120,7 +132,7 @@ fn push(mutator: &mut HeapMut, val: HeapVal) -> Code
 }
 
 fn pop(mutator: &mut HeapMut, n: usize) -> Code
-    ensures popped { OfHandle (λ old new c. PopsRoots old new.local n c × (new.held ≡ old.held))
+    ensures popped { OfHandle (PopsOf n)
         mutator.old.mine mutator.new.mine result }
 {
     match mutator.mine() {
@@ -147,7 +159,7 @@ fn root(mutator: &mut HeapMut, i: usize, out: &mut HeapVal) -> Code
 }
 
 fn set(mutator: &mut HeapMut, i: usize, val: HeapVal) -> Code
-    ensures set { OfHandle (λ old new c. SetsRoot old new.local i val c × (new.held ≡ old.held))
+    ensures set { OfHandle (SetsOf i val)
         mutator.old.mine mutator.new.mine result }
 {
     match mutator.mine() {
@@ -159,7 +171,7 @@ fn set(mutator: &mut HeapMut, i: usize, val: HeapVal) -> Code
 /// Gives a mutator that is out room for private records, and a stack for roots.
 #[unsafe(no_mangle)]
 pub extern "C" fn heap_records(alloc: Global, mutator: &mut HeapMut, count: u32, roots: u32) -> i32
-    ensures given { Numbered result (OfHandle (GivesRoom count roots) mutator.old.mine
+    ensures given { Numbered result (OfHandle (OnOwned (GivesRoom count roots)) mutator.old.mine
         mutator.new.mine) }
 {
     records(alloc, mutator, count, roots).number()
@@ -206,6 +218,21 @@ pub extern "C" fn heap_get_all(mutator: &mut HeapMut, of: HeapVal, out: &mut [He
     get_all(mutator, of, out).number()
 }
 
+/// Reads along a path of fields, and holds of what it found the last cell alone.
+#[unsafe(no_mangle)]
+pub extern "C" fn heap_walk(
+    mutator: &mut HeapMut,
+    of: HeapVal,
+    path: &[u8],
+    out: &mut HeapVal,
+) -> i32
+    ensures walked { Numbered result (OfHandleOr (out.new ≡ out.old)
+        (λ old new c. GivesWalked of path.now out.old out.new old new c)
+        mutator.old.mine mutator.new.mine) }
+{
+    walk(mutator, of, path, out).number()
+}
+
 /// How many roots are on the stack; 0 where the mutator is out, or of a handle of nothing.
 #[unsafe(no_mangle)]
 pub extern "C" fn heap_roots(mutator: &mut HeapMut) -> usize
@@ -220,8 +247,7 @@ pub extern "C" fn heap_roots(mutator: &mut HeapMut) -> usize
 /// Pushes a root.
 #[unsafe(no_mangle)]
 pub extern "C" fn heap_push(mutator: &mut HeapMut, val: HeapVal) -> i32
-    ensures pushed { Numbered result (OfHandle (λ old new c. PushesRoot old new.local val c
-        × (new.held ≡ old.held)) mutator.old.mine mutator.new.mine) }
+    ensures pushed { Numbered result (OfHandle (PushesOf val) mutator.old.mine mutator.new.mine) }
 {
     push(mutator, val).number()
 }
@@ -229,8 +255,7 @@ pub extern "C" fn heap_push(mutator: &mut HeapMut, val: HeapVal) -> i32
 /// Lets the newest n roots go.
 #[unsafe(no_mangle)]
 pub extern "C" fn heap_pop(mutator: &mut HeapMut, n: usize) -> i32
-    ensures popped { Numbered result (OfHandle (λ old new c. PopsRoots old new.local n c
-        × (new.held ≡ old.held)) mutator.old.mine mutator.new.mine) }
+    ensures popped { Numbered result (OfHandle (PopsOf n) mutator.old.mine mutator.new.mine) }
 {
     pop(mutator, n).number()
 }
@@ -247,8 +272,7 @@ pub extern "C" fn heap_root(mutator: &mut HeapMut, i: usize, out: &mut HeapVal) 
 /// Puts a root in place of another one.
 #[unsafe(no_mangle)]
 pub extern "C" fn heap_set(mutator: &mut HeapMut, i: usize, val: HeapVal) -> i32
-    ensures set { Numbered result (OfHandle (λ old new c. SetsRoot old new.local i val c
-        × (new.held ≡ old.held)) mutator.old.mine mutator.new.mine) }
+    ensures set { Numbered result (OfHandle (SetsOf i val) mutator.old.mine mutator.new.mine) }
 {
     set(mutator, i, val).number()
 }

@@ -1,8 +1,8 @@
 //! Private records as C names them: making one, and reading one.
-ghost use Rattle.std.specs.Prelude.{◌≡◌, ◌<◌, ◌≤◌, ◌+◌, ◌*◌, IfSome, List, MatchOption, false, true};
+ghost use Rattle.std.specs.Prelude.{◌≡◌, ◌<◌, ◌≤◌, ◌+◌, ◌*◌, IfSome, List, MatchOption};
 ghost use Rattle.std.specs.Prelude.{ℕ};
-ghost use Rattle.std.specs.Bool.{OnFalse, OnTrue};
 ghost use Rattle.heap_c.specs.Holding.{IsOwned, owned_by};
+ghost use Rattle.local_records.specs.Local.{Local};
 ghost use Rattle.heap_c.specs.Records.{AreFields, CanBeFields, CanMean, FieldMeans};
 ghost use Rattle.heap_c.specs.Records.{GetsAllPrivate, GetsPrivate, IsFieldVal, IsRef};
 ghost use Rattle.heap_c.specs.Records.{MakesRecord, NamesRecord, kind_at, starts_of};
@@ -11,20 +11,17 @@ ghost use Rattle.minor_heap.specs.Record.{field_of, fields_of};
 ghost use Rattle.minor_heap.specs.declared.fields.MinorField.{MinorField};
 ghost use Rattle.minor_heap.specs.declared.fields.MinorRef.{MinorRef};
 ghost use Rattle.minor_heap.specs.declared.record.FieldKind.TheVariants as kind;
-ghost use Rattle.sorted_boxes.specs.Sorts.{holds_record};
 
 use crate::codes::Code;
 use crate::rule::Rule;
-use crate::values::{FIELDS, HeapVal, NULL, NUM, NUMBERS_END, REC, REF, is_field};
+use crate::turns::{NUMBERS, Turns};
+use crate::values::{FIELDS, HeapVal, NULL, NUM, REC, REF, is_field};
 use heap_table::CellHeap;
 use local_records::{LocalRecords, NotMade};
 use local_references::LocalRef;
 use minor_heap::{FieldKind, MinorField, MinorRef};
 use mutator_events::MutSeat;
 use sorted_boxes::Sorts;
-
-/// How many numbers a turn has for records.
-const NUMBERS: u64 = 1 << 32;
 
 /// The private record that these bytes name.
 pub(crate) fn find(local: &LocalRecords, tag: u64, n: u64) -> Option<MinorRef>
@@ -82,27 +79,40 @@ fn kind_of(tag: u64) -> FieldKind
     }
 }
 
-/// Whether no box stands at the place that this names, if it is one.
-fn names_no_box(sorts: &Sorts, tag: u64, n: u64) -> bool
-    ensures none { OnTrue result (tag ≡ 2 → holds_record sorts.now n ≡ true) }
-    ensures one { OnFalse result ((tag ≡ 2) × (holds_record sorts.now n ≡ false)) }
+/// The place with this number as a field of a new record, if a record is held there.
+#[inline(always)]
+fn given_place(sorts: &Sorts, turns: Turns, n: u64) -> Option<OneField>
+    ensures means { MatchOption result
+        ((held : ℕ) (l : Local) (f : MinorField) → FieldMeans turns held sorts.now l 2 n f → ⊥)
+        (λ g. (l : Local) → CanMean turns sorts.now l 2 n (field_of g.kind g.word)) }
 {
-    tag != REF || sorts.is_record(n as usize)
+    let Some(place) = turns.place(n) else {
+        return None;
+    };
+    if !sorts.is_record(place) {
+        return None;
+    }
+    Some(OneField {
+        kind: FieldKind::Shared,
+        word: place as u64,
+    })
 }
 
 /// What these bytes are as a field of a new record, if what they name is there. By tag their number
-/// counts from one of these.
+/// counts from one of these, but for a place.
+#[inline(always)]
 fn given(
     local: &LocalRecords,
     sorts: &Sorts,
+    turns: Turns,
     starts: &[u64; 4],
     tag: u64,
     n: u64,
 ) -> Option<OneField>
     requires starts { starts.now ≡ starts_of local.now.turn }
     ensures means { MatchOption result
-        ((held : ℕ) (f : MinorField) → FieldMeans held sorts.now local.now tag n f → ⊥)
-        (λ g. CanMean sorts.now local.now tag n (field_of g.kind g.word)) }
+        ((held : ℕ) (f : MinorField) → FieldMeans turns held sorts.now local.now tag n f → ⊥)
+        (λ g. CanMean turns sorts.now local.now tag n (field_of g.kind g.word)) }
 {
     let _ = local;
     if REC < tag {
@@ -112,8 +122,8 @@ fn given(
     if n < start {
         return None;
     }
-    if !names_no_box(sorts, tag, n) {
-        return None;
+    if tag == REF {
+        return given_place(sorts, turns, n);
     }
     Some(OneField {
         kind: kind_of(tag),
@@ -130,19 +140,33 @@ struct FiveFields {
 
 /// What the bytes of five fields are, whose tags stand in those of a word, if what they name is
 /// there.
-fn laid(local: &LocalRecords, sorts: &Sorts, kinds: u64, words: [u64; 5]) -> Option<FiveFields>
+fn laid(
+    local: &LocalRecords,
+    sorts: &Sorts,
+    turns: Turns,
+    kinds: u64,
+    words: [u64; 5],
+) -> Option<FiveFields>
+    requires turn { turns.turn ≡ local.now.turn }
     ensures means { MatchOption result
         ((held : ℕ) (fields : List MinorField)
-        → AreFields held sorts.now local.now kinds words fields → ⊥)
-        (λ g. CanBeFields sorts.now local.now kinds words (fields_of g.kinds g.words)) }
+        → AreFields turns held sorts.now local.now kinds words fields → ⊥)
+        (λ g. CanBeFields turns sorts.now local.now kinds words (fields_of g.kinds g.words)) }
 {
-    let oldest = val_of_record(local, MinorRef { number: 0 });
-    let starts = [0, 0, 0, oldest.n];
-    let first = given(local, sorts, &starts, kinds % 256, words[0])?;
-    let second = given(local, sorts, &starts, kinds / 256 % 256, words[1])?;
-    let third = given(local, sorts, &starts, kinds / 65536 % 256, words[2])?;
-    let fourth = given(local, sorts, &starts, kinds / 16777216 % 256, words[3])?;
-    let fifth = given(local, sorts, &starts, kinds / 4294967296, words[4])?;
+    let start = turns.start();
+    let starts = [0, 0, 0, start];
+    let first = given(local, sorts, turns, &starts, kinds % 256, words[0])?;
+    let second = given(local, sorts, turns, &starts, kinds / 256 % 256, words[1])?;
+    let third = given(local, sorts, turns, &starts, kinds / 65536 % 256, words[2])?;
+    let fourth = given(
+        local,
+        sorts,
+        turns,
+        &starts,
+        kinds / 16777216 % 256,
+        words[3],
+    )?;
+    let fifth = given(local, sorts, turns, &starts, kinds / 4294967296, words[4])?;
     Some(FiveFields {
         kinds: [first.kind, second.kind, third.kind, fourth.kind, fifth.kind],
         words: [first.word, second.word, third.word, fourth.word, fifth.word],
@@ -155,20 +179,22 @@ pub(crate) fn make(
     seat: &MutSeat<Rule>,
     sorts: &Sorts,
     local: &mut LocalRecords,
+    turns: Turns,
     kinds: u64,
     words: [u64; 5],
 ) -> Result<HeapVal, Code>
     requires owned { IsOwned heap.now seat.now sorts.now local.old }
+    requires turn { turns.turn ≡ local.old.turn }
     ensures owned { IsOwned heap.now seat.now sorts.now local.new }
-    ensures made { MakesRecord (owned_by heap.now seat.now sorts.now local.old) local.new kinds
-        words result }
+    ensures made { MakesRecord turns (owned_by heap.now seat.now sorts.now local.old) local.new
+        kinds words result }
 {
     let _ = heap;
     if !seat.is_in() {
         return Err(Code::NotIn);
     }
     let held = seat.held_len();
-    let Some(laid) = laid(local, sorts, kinds, words) else {
+    let Some(laid) = laid(local, sorts, turns, kinds, words) else {
         return Err(Code::BadValue);
     };
     match local.make(laid.kinds, laid.words, held) {
@@ -180,8 +206,8 @@ pub(crate) fn make(
 }
 
 /// A field of a private record as C has it.
-fn val_of_field(local: &LocalRecords, field: MinorField) -> HeapVal
-    ensures val { IsFieldVal local.now result field }
+fn val_of_field(local: &LocalRecords, turns: Turns, field: MinorField) -> HeapVal
+    ensures val { IsFieldVal turns local.now result field }
 {
     match field {
         MinorField::Null => HeapVal { tag: NULL, n: 0 },
@@ -189,7 +215,7 @@ fn val_of_field(local: &LocalRecords, field: MinorField) -> HeapVal
         MinorField::Minor(r) => val_of_record(local, r),
         MinorField::Shared(place) => HeapVal {
             tag: REF,
-            n: place as u64,
+            n: turns.number(place),
         },
     }
 }
@@ -198,10 +224,11 @@ fn val_of_field(local: &LocalRecords, field: MinorField) -> HeapVal
 pub(crate) fn get(
     seat: &MutSeat<Rule>,
     local: &LocalRecords,
+    turns: Turns,
     of: HeapVal,
     field: usize,
 ) -> Result<HeapVal, Code>
-    ensures got { GetsPrivate seat.now.me.presence.inside local.now of field result }
+    ensures got { GetsPrivate seat.now.me.presence.inside turns local.now of field result }
 {
     if !seat.is_in() {
         return Err(Code::NotIn);
@@ -212,17 +239,18 @@ pub(crate) fn get(
     if !is_field(field) {
         return Err(Code::BadField);
     }
-    Ok(val_of_field(local, local.field(r, field)))
+    Ok(val_of_field(local, turns, local.field(r, field)))
 }
 
 /// All five fields of one.
 pub(crate) fn get_all(
     seat: &MutSeat<Rule>,
     local: &LocalRecords,
+    turns: Turns,
     of: HeapVal,
     five: usize,
 ) -> Result<[HeapVal; 5], Code>
-    ensures got { GetsAllPrivate seat.now.me.presence.inside local.now of five result }
+    ensures got { GetsAllPrivate seat.now.me.presence.inside turns local.now of five result }
 {
     if !seat.is_in() {
         return Err(Code::NotIn);
@@ -234,10 +262,10 @@ pub(crate) fn get_all(
         return Err(Code::BadSize);
     }
     Ok([
-        val_of_field(local, local.field(r, 0)),
-        val_of_field(local, local.field(r, 1)),
-        val_of_field(local, local.field(r, 2)),
-        val_of_field(local, local.field(r, 3)),
-        val_of_field(local, local.field(r, 4)),
+        val_of_field(local, turns, local.field(r, 0)),
+        val_of_field(local, turns, local.field(r, 1)),
+        val_of_field(local, turns, local.field(r, 2)),
+        val_of_field(local, turns, local.field(r, 3)),
+        val_of_field(local, turns, local.field(r, 4)),
     ])
 }

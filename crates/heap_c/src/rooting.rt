@@ -11,6 +11,7 @@ ghost use Rattle.local_references.specs.declared.roots.Root.TheVariants as root;
 use crate::codes::Code;
 use crate::records::{find, val_of_record};
 use crate::rule::Rule;
+use crate::turns::Turns;
 use crate::values::{HeapVal, NULL, NUM, REC, REF, value_of};
 use heap_table::CellHeap;
 use local_records::LocalRecords;
@@ -20,10 +21,16 @@ use mutator_seat::Value;
 use sorted_boxes::Sorts;
 
 /// The root that this is, where so many places are held.
-fn root_of(local: &LocalRecords, sorts: &Sorts, val: HeapVal, held: usize) -> Option<Root>
+fn root_of(
+    local: &LocalRecords,
+    sorts: &Sorts,
+    turns: Turns,
+    val: HeapVal,
+    held: usize,
+) -> Option<Root>
     ensures means { MatchOption result
-        ((r : Root) → RootMeans held sorts.now local.now val.tag val.n r → ⊥)
-        (λ r. RootMeans held sorts.now local.now val.tag val.n r) }
+        ((r : Root) → RootMeans turns held sorts.now local.now val.tag val.n r → ⊥)
+        (λ r. RootMeans turns held sorts.now local.now val.tag val.n r) }
     ensures stands { IfSome result (RootStands local.now.records) }
     ensures below { IfSome result (IsRootBelow held) }
     ensures apart { IfSome result (λ r. r ≡ root.Shared 0 → ⊥) }
@@ -35,7 +42,7 @@ fn root_of(local: &LocalRecords, sorts: &Sorts, val: HeapVal, held: usize) -> Op
             None => None,
         };
     }
-    match value_of(val, held) {
+    match value_of(turns, val, held) {
         Some(Value::Null) => Some(Root::Null),
         Some(Value::Num(n)) => Some(Root::Num(n)),
         Some(Value::Held(place)) => Some(Root::Shared(place)),
@@ -44,8 +51,8 @@ fn root_of(local: &LocalRecords, sorts: &Sorts, val: HeapVal, held: usize) -> Op
 }
 
 /// A root as C has it.
-fn val_of_root(local: &LocalRecords, root: Root) -> HeapVal
-    ensures val { IsRootVal local.now result root }
+fn val_of_root(local: &LocalRecords, turns: Turns, root: Root) -> HeapVal
+    ensures val { IsRootVal turns local.now result root }
 {
     match root {
         Root::Null => HeapVal { tag: NULL, n: 0 },
@@ -53,7 +60,7 @@ fn val_of_root(local: &LocalRecords, root: Root) -> HeapVal
         Root::Private(r) => val_of_record(local, r),
         Root::Shared(place) => HeapVal {
             tag: REF,
-            n: place as u64,
+            n: turns.number(place),
         },
     }
 }
@@ -64,11 +71,12 @@ pub(crate) fn push(
     seat: &MutSeat<Rule>,
     sorts: &Sorts,
     local: &mut LocalRecords,
+    turns: Turns,
     val: HeapVal,
 ) -> Code
     requires owned { IsOwned heap.now seat.now sorts.now local.old }
     ensures owned { IsOwned heap.now seat.now sorts.now local.new }
-    ensures pushed { PushesRoot (owned_by heap.now seat.now sorts.now local.old) local.new val
+    ensures pushed { PushesRoot turns (owned_by heap.now seat.now sorts.now local.old) local.new val
         result }
 {
     let _ = heap;
@@ -76,7 +84,7 @@ pub(crate) fn push(
         return Code::NotIn;
     }
     let held = seat.held_len();
-    let Some(root) = root_of(local, sorts, val, held) else {
+    let Some(root) = root_of(local, sorts, turns, val, held) else {
         return Code::BadValue;
     };
     match local.push(root, held) {
@@ -116,9 +124,10 @@ pub(crate) fn root(
     seat: &MutSeat<Rule>,
     sorts: &Sorts,
     local: &LocalRecords,
+    turns: Turns,
     i: usize,
 ) -> Result<HeapVal, Code>
-    ensures told { TellsRoot (owned_by heap.now seat.now sorts.now local.now) i result }
+    ensures told { TellsRoot turns (owned_by heap.now seat.now sorts.now local.now) i result }
 {
     let _ = heap;
     let _ = sorts;
@@ -128,7 +137,7 @@ pub(crate) fn root(
     if local.roots_len() <= i {
         return Err(Code::BadPlace);
     }
-    Ok(val_of_root(local, local.root(i)))
+    Ok(val_of_root(local, turns, local.root(i)))
 }
 
 /// Another root in place of one.
@@ -137,12 +146,14 @@ pub(crate) fn set(
     seat: &MutSeat<Rule>,
     sorts: &Sorts,
     local: &mut LocalRecords,
+    turns: Turns,
     i: usize,
     val: HeapVal,
 ) -> Code
     requires owned { IsOwned heap.now seat.now sorts.now local.old }
     ensures owned { IsOwned heap.now seat.now sorts.now local.new }
-    ensures set { SetsRoot (owned_by heap.now seat.now sorts.now local.old) local.new i val result }
+    ensures set { SetsRoot turns (owned_by heap.now seat.now sorts.now local.old) local.new i val
+        result }
 {
     let _ = heap;
     if !seat.is_in() {
@@ -152,7 +163,7 @@ pub(crate) fn set(
         return Code::BadPlace;
     }
     let held = seat.held_len();
-    let Some(root) = root_of(local, sorts, val, held) else {
+    let Some(root) = root_of(local, sorts, turns, val, held) else {
         return Code::BadValue;
     };
     local.set(i, root, held);

@@ -15,6 +15,7 @@ use crate::claiming::{Waiting, claim};
 use crate::codes::Code;
 use crate::rule::Rule;
 use crate::sharing::Sharing;
+use crate::turns::Turns;
 use crate::values::{FIELDS, FIRST, HeapVal, values_of};
 use heap_table::CellHeap;
 use mutator_events::MutSeat;
@@ -72,7 +73,7 @@ pub(crate) fn answer(heap: &CellHeap<Rule>, seat: &mut MutSeat<Rule>, sorts: &So
     Code::Ok
 }
 
-/// Keeps the first n places, and behind them so many from a place on.
+/// Keeps the first n places, and after them so many from a place on.
 pub(crate) fn keep(
     heap: &CellHeap<Rule>,
     seat: &mut MutSeat<Rule>,
@@ -135,6 +136,7 @@ pub(crate) fn make(
     sorts: &mut Sorts,
     sharing: &Sharing,
     wait: &mut Waiting,
+    turns: Turns,
     vals: &[HeapVal],
 ) -> Result<usize, Code>
     requires mine { IsMine heap.now seat.old sorts.old }
@@ -142,7 +144,7 @@ pub(crate) fn make(
     ensures records { StillRecords seat.old.me.known seat.new.me.known }
     ensures longer { length seat.old.me.known ≤ length seat.new.me.known }
     ensures inside { seat.new.me.presence.inside ≡ seat.old.me.presence.inside }
-    ensures made { MakesCell (held_by heap.now seat.old sorts.old)
+    ensures made { MakesCell turns (held_by heap.now seat.old sorts.old)
         (held_by heap.now seat.new sorts.new) vals.now result }
 {
     if !seat.is_in() {
@@ -154,7 +156,7 @@ pub(crate) fn make(
     if seat.room() < 1 {
         return Err(Code::NoRoom);
     }
-    let Some(fields) = values_of(vals, seat.held_len()) else {
+    let Some(fields) = values_of(turns, vals, seat.held_len()) else {
         return Err(Code::BadValue);
     };
     if !are_fit(sorts, fields) {
@@ -173,6 +175,7 @@ pub(crate) fn make_at(
     sorts: &mut Sorts,
     sharing: &Sharing,
     wait: &mut Waiting,
+    turns: Turns,
     first: usize,
     vals: &[HeapVal],
 ) -> Code
@@ -182,7 +185,7 @@ pub(crate) fn make_at(
     ensures longer { (m : ℕ) → m ≤ first → m ≤ length seat.old.me.known
         → m ≤ length seat.new.me.known }
     ensures inside { seat.new.me.presence.inside ≡ seat.old.me.presence.inside }
-    ensures made { MakesAt (held_by heap.now seat.old sorts.old)
+    ensures made { MakesAt turns (held_by heap.now seat.old sorts.old)
         (held_by heap.now seat.new sorts.new) first vals.now result }
 {
     if !seat.is_in() {
@@ -191,7 +194,7 @@ pub(crate) fn make_at(
     if first < FIRST || seat.held_len() < first {
         return Code::BadPlace;
     }
-    match make(heap, seat, sorts, sharing, wait, vals) {
+    match make(heap, seat, sorts, sharing, wait, turns, vals) {
         Ok(place) => {
             let _room = seat.room();
             placing::keep(heap, seat, sorts, first, place, 1);

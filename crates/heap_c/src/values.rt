@@ -1,12 +1,15 @@
 //! Values as C has them.
-ghost use Rattle.std.specs.Prelude.{◌<◌, ◌≤◌, ◌≡◌, ◌⊎◌, IfSome, IsTrue, MatchOption, slice_get, ℕ};
+ghost use Rattle.std.specs.Prelude.{◌<◌, ◌≤◌, ◌≡◌, IfSome, IsTrue, MatchOption, length};
+ghost use Rattle.std.specs.Prelude.{slice_get, ℕ};
 ghost use Rattle.cell_making.specs.Makes.{value_at};
 ghost use Rattle.std.specs.Bool.{OnFalse, OnTrue};
-ghost use Rattle.heap_c.specs.Refusing.{AreMeant, IsVal, Means, MeansAt, NoField, NoValue};
-ghost use Rattle.heap_c.specs.Refusing.{NoValueAt};
+ghost use Rattle.heap_c.specs.Refusing.{AreMeant, IsVal, Means, MeansAt, NoField, NoHeld};
+ghost use Rattle.heap_c.specs.Refusing.{NoValue, NoValueAt};
+ghost use Rattle.heap_c.specs.Turns.{NamesPlace};
 ghost use Rattle.mutator_events.specs.declared.values.Value.TheVariants as values;
 ghost use Rattle.sorted_boxes.specs.Sorts.{AreValues, IsValue};
 
+use crate::turns::Turns;
 use mutator_seat::Value;
 
 /// A value in the memory of C: what it is, and its number or place.
@@ -57,9 +60,10 @@ pub(crate) fn is_field(field: usize) -> bool
 }
 
 /// The value that this is, where so many places are held.
-pub(crate) fn value_of(val: HeapVal, held: usize) -> Option<Value>
+pub(crate) fn value_of(turns: Turns, val: HeapVal, held: usize) -> Option<Value>
     ensures good { IfSome result (λ value. IsValue held value) }
-    ensures means { MatchOption result (NoValue held val) (λ value. Means held val value) }
+    ensures means { MatchOption result (NoValue turns held val) (λ value. Means turns held val
+        value) }
 {
     if val.tag == NULL {
         Some(Value::Null)
@@ -70,18 +74,22 @@ pub(crate) fn value_of(val: HeapVal, held: usize) -> Option<Value>
             None
         }
     } else if val.tag == REF {
-        place_of(val.n as usize, held)
+        place_of(turns, val.n, held)
     } else {
         None
     }
 }
 
-/// The value that is a place, but for the anchor's.
-fn place_of(place: usize, held: usize) -> Option<Value>
+/// The value that is a place with this number, but for the anchor's.
+fn place_of(turns: Turns, n: u64, held: usize) -> Option<Value>
     ensures good { IfSome result (λ value. IsValue held value) }
-    ensures place { MatchOption result ((place < 1) ⊎ (held ≤ place))
-        (λ value. (value ≡ values.Held place) × ((1 ≤ place) × (place < held))) }
+    ensures place { MatchOption result (NoHeld turns held n) (λ value. (place : ℕ)
+        × ((value ≡ values.Held place) × (NamesPlace turns n place
+        × ((1 ≤ place) × (place < held))))) }
 {
+    let Some(place) = turns.place(n) else {
+        return None;
+    };
     if FIRST <= place && place < held {
         Some(Value::Held(place))
     } else {
@@ -89,57 +97,65 @@ fn place_of(place: usize, held: usize) -> Option<Value>
     }
 }
 
-/// The value at an index, or null behind the last one.
-fn value_at(vals: &[HeapVal], index: usize, held: usize) -> Option<Value>
+/// The value at an index, or null after the last one.
+fn value_at(turns: Turns, vals: &[HeapVal], index: usize, held: usize) -> Option<Value>
     ensures good { IfSome result (λ value. IsValue held value) }
-    ensures means { MatchOption result (NoValueAt held vals.now index)
-        (λ value. MeansAt held vals.now index value) }
+    ensures means { MatchOption result (NoValueAt turns held vals.now index)
+        (λ value. MeansAt turns held vals.now index value) }
 {
     if index < vals.len() {
-        value_of(vals[index], held)
+        value_of(turns, vals[index], held)
     } else {
         Some(Value::Null)
     }
 }
 
 /// The fields of a new cell, of which the first are given.
-pub(crate) fn values_of(vals: &[HeapVal], held: usize) -> Option<[Value; 5]>
+pub(crate) fn values_of(turns: Turns, vals: &[HeapVal], held: usize) -> Option<[Value; 5]>
     ensures good { IfSome result (λ values. AreValues held values) }
-    ensures means { MatchOption result ((i : ℕ) × NoValueAt held vals.now i)
-        (λ values. AreMeant held vals.now values) }
+    ensures means { MatchOption result ((i : ℕ) × NoValueAt turns held vals.now i)
+        (λ values. AreMeant turns held vals.now values) }
 {
-    let first = value_at(vals, 0, held)?;
-    let second = value_at(vals, 1, held)?;
-    let third = value_at(vals, 2, held)?;
-    let fourth = value_at(vals, 3, held)?;
-    let fifth = value_at(vals, 4, held)?;
+    let first = value_at(turns, vals, 0, held)?;
+    let second = value_at(turns, vals, 1, held)?;
+    let third = value_at(turns, vals, 2, held)?;
+    let fourth = value_at(turns, vals, 3, held)?;
+    let fifth = value_at(turns, vals, 4, held)?;
     Some([first, second, third, fourth, fifth])
 }
 
 /// As C has it.
-pub(crate) fn val_of(value: Value) -> HeapVal
-    ensures val { IsVal result value }
+pub(crate) fn val_of(turns: Turns, value: Value) -> HeapVal
+    ensures val { IsVal turns result value }
 {
     match value {
         Value::Null => HeapVal { tag: NULL, n: 0 },
         Value::Num(n) => HeapVal { tag: NUM, n },
         Value::Held(place) => HeapVal {
             tag: REF,
-            n: place as u64,
+            n: turns.number(place),
         },
     }
 }
 
 /// Five values as C has them.
-pub(crate) fn vals_of(values: [Value; 5]) -> [HeapVal; 5]
+pub(crate) fn vals_of(turns: Turns, values: [Value; 5]) -> [HeapVal; 5]
     ensures vals { (i : ℕ) → i < 5 → MatchOption (slice_get result i) ⊥
-        (λ val. IsVal val (value_at values i)) }
+        (λ val. IsVal turns val (value_at values i)) }
 {
     [
-        val_of(values[0]),
-        val_of(values[1]),
-        val_of(values[2]),
-        val_of(values[3]),
-        val_of(values[4]),
+        val_of(turns, values[0]),
+        val_of(turns, values[1]),
+        val_of(turns, values[2]),
+        val_of(turns, values[3]),
+        val_of(turns, values[4]),
     ]
+}
+
+/// Hands five values out.
+pub(crate) fn give_five(vals: [HeapVal; 5], out: &mut [HeapVal])
+    requires five { length out.old ≡ 5 }
+    ensures given { out.new ≡ vals }
+{
+    out.copy_from_slice(&vals);
 }

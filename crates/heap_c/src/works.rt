@@ -1,9 +1,7 @@
 //! The collector taken apart, and its moves.
 ghost use Rattle.std.specs.Prelude.{◌≡◌, ◌<◌};
-ghost use Rattle.collector.specs.Bound.{control_of};
 ghost use Rattle.collector.specs.Stepping.{Steps};
 ghost use Rattle.collector.specs.Stretches.{Kept};
-ghost use Rattle.core_machine.specs.State.{greatest_cycles};
 ghost use Rattle.heap_c.specs.Keeping.{IsWorked, collector_of};
 
 use crate::rule::Rule;

@@ -324,13 +324,14 @@ value mem_binding(mem *m, uint64_t symbol, value v, value next) {
 /* Nothing moves on the way, and of what is read the last binding alone stays held. */
 int mem_find(mem *m, value bindings, uint64_t symbol, value *v) {
     make_places(m);
-    size_t held = heap_held(&m->spot.m), read = m->read;
+    size_t held = heap_held(&m->spot.m), read = m->read, place = 0;
     heap_val at = plain(m, bindings);
     while (at.tag != HEAP_NULL && info_of(get(m, at, WORD).n) != symbol) {
         at = get(m, at, NEXT);
-        if (at.tag != HEAP_REF || at.n <= held) continue;
+        if (at.tag != HEAP_REF || heap_index(at.n) <= held) continue;
         MUST(heap_keep(&m->spot.m, held, at.n, 1));
-        at.n = held;
+        MUST(heap_place(&m->spot.m, held, &place));
+        at = heap_ref(place);
     }
     m->read = read + 1;
     if (at.tag == HEAP_NULL) return 0;

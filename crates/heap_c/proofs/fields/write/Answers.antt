@@ -1,6 +1,7 @@
-use Rattle.std.proofs.Common.{arith}
+use Rattle.std.proofs.Common.{ℕ, arith, inl, refl, subst}
 use Rattle.mutator_seat.specs.Bound.{bound}
 use Rattle.sorted_boxes.proofs.Again.{many_again}
+use Rattle.heap_c.specs.Refusing.{NoValue}
 use Rattle.heap_c.proofs.fields.write.Goals as goal
 
 pub returns-then-written-clause-longer : goal.returns-then-written-clause-longer
@@ -15,3 +16,10 @@ returns-then-written-clause-longer c =
       c.held_len-held.ensures.len,
       c.held_len-held.ensures.known,
     )
+
+pub returns-in_default-clause-wrote : goal.returns-in_default-clause-wrote
+returns-in_default-clause-wrote c = (
+  inl (subst (λ (held : ℕ). NoValue c.args.turns held c.args.val) c.held_len-2.ensures.len
+      c.in_default.ensures.means),
+  refl,
+)

@@ -89,7 +89,7 @@ returns c =
         empty = c.settle.ensures.empty;
         none = c.settle.ensures.none;
         aged = c.settle.ensures.aged;
-        turn = c.settle.ensures.turn;
+        turn = c.settle.ensures.turn.more c.requires.turn;
         room = c.settle.ensures.room;
         most = c.settle.ensures.most;
       };

@@ -1,4 +1,4 @@
-use Rattle.std.proofs.Common.{arith, sym}
+use Rattle.std.proofs.Common.{arith}
 use Rattle.heap_c.proofs.Naming.{names_found}
 use Rattle.heap_c.proofs.records.find.Goals as goal
 

@@ -10,7 +10,7 @@ returns c =
     let fourth = c.in_ok-fourth.fourth in
     let fifth = c.in_ok-fifth.fifth in
     record {
-      means = can_be c.args.sorts.now c.args.local.now c.args.kinds c.args.words
+      means = can_be c.args.turns c.args.sorts.now c.args.local.now c.args.kinds c.args.words
           (field_of first.kind first.word) (field_of second.kind second.word)
           (field_of third.kind third.word) (field_of fourth.kind fourth.word)
           (field_of fifth.kind fifth.word) c.in_ok-first.ensures.means

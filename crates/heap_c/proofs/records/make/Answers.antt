@@ -16,7 +16,7 @@ returns-in-Ok-clause-owned c =
     record {
       mine = c.requires.owned.mine;
       inside = λ is. c.in-Ok.ensures.local c.args.seat.now.me.known (c.requires.owned.inside is)
-          (shares_all held c.args.sorts.now c.args.local.now c.args.seat.now.me
+          (shares_all c.args.turns held c.args.sorts.now c.args.local.now c.args.seat.now.me
           c.held_len-held.ensures.len (c.requires.owned.mine.held is) c.args.kinds c.args.words
           fields (c.in-Some.ensures.means.means held c.in-Ok.ensures.within));
       outside = λ out known. absurd (not_both _ inside out);
@@ -35,7 +35,7 @@ returns-in-Ok-clause-made c =
       (
         fields,
         (
-          subst (λ (n : ℕ). AreFields n c.args.sorts.now c.args.local.now c.args.kinds
+          subst (λ (n : ℕ). AreFields c.args.turns n c.args.sorts.now c.args.local.now c.args.kinds
               c.args.words fields) c.held_len-held.ensures.len
               (c.in-Some.ensures.means.means held c.in-Ok.ensures.within),
           (
@@ -54,7 +54,7 @@ returns-in-Err-Unfit-clause-made c =
     let held = c.held_len-held.result in (
       λ others are. c.in-Err-Unfit.ensures.unfit (ap Err c.in-Err-Unfit.field-0-is)
           (c.in-Some.ensures.means.within held others
-          (subst (λ (n : ℕ). AreFields n c.args.sorts.now c.args.local.now c.args.kinds
+          (subst (λ (n : ℕ). AreFields c.args.turns n c.args.sorts.now c.args.local.now c.args.kinds
           c.args.words others) (sym c.held_len-held.ensures.len) are)),
       c.in-Err-Unfit.ensures.unchanged,
     )

@@ -32,8 +32,8 @@ returns-then-made-clause-made c =
     let claimed = c.in_ok-place.ensures.got in
     let given = c.in-Some.fields in
     let made = c.if-made.ensures.made in
-    let means = subst (λ (many : ℕ). AreMeant many c.args.vals.now given) c.held_len.ensures.len
-    c.in-Some.ensures.means in
+    let means = subst (λ (many : ℕ). AreMeant c.args.turns many c.args.vals.now given)
+    c.held_len.ensures.len c.in-Some.ensures.means in
     let same = subst (λ (n : ℕ). SameBelow c.args.sorts.now.records c.make-made.new.sorts.records n)
     claimed.place_is c.make-made.ensures.same in
     let holds : HoldsRaw c.args.sorts.now raw place =

@@ -1,10 +1,48 @@
-use Rattle.std.proofs.Common.{arith, inl}
+use Rattle.std.proofs.Common.{◌<◌, ℕ, arith, inl, inr, refl, subst}
+use Rattle.std.specs.Prelude.{MatchOption, slice_get}
+use Rattle.cell_making.specs.Makes.{value_at}
+use Rattle.heap_c.specs.Refusing.{IsVal}
+use Rattle.heap_c.specs.Turns.{NamesNone, NamesPlace}
+use Rattle.heap_c.specs.declared.turns.Turns.{Turns}
 use Rattle.heap_c.proofs.mine.Mine.get_all.Goals as goal
 
-pub returns-in-Ok : goal.returns-in-Ok
-returns-in-Ok c = record {
+pub returns-in_default : goal.returns-in_default
+returns-in_default c = record {
   got = inl (
     omega (arith, c.if-of-eq-REF.true),
-    ((c.in-Ok.values, (c.vals_of.ensures.vals, c.in-Ok.ensures.read)), c.in-Ok.ensures.local),
+    inr (
+      subst (λ (t : Turns). NamesNone t c.args.of.n) c.turns-turns.ensures.turns
+          c.in_default.ensures.names,
+      (refl, refl),
+    ),
   );
 }
+
+pub returns-in-Ok : goal.returns-in-Ok
+returns-in-Ok c =
+    let turns = c.turns-turns.ensures.turns in
+    record {
+      got = inl (
+        omega (arith, c.if-of-eq-REF.true),
+        inl (
+          c.in-Some.place,
+          (
+            subst (λ (t : Turns). NamesPlace t c.args.of.n c.in-Some.place) turns
+                c.in-Some.ensures.names,
+            (
+              (
+                c.in-Ok.values,
+                (
+                  subst (λ (t : Turns). (i : ℕ) → i < 5
+                      → MatchOption (slice_get c.vals_of.result i) ⊥
+                      (λ val. IsVal t val (value_at c.in-Ok.values i))) turns
+                      c.vals_of.ensures.vals,
+                  c.in-Ok.ensures.read,
+                ),
+              ),
+              c.in-Ok.ensures.still,
+            ),
+          ),
+        ),
+      );
+    }
