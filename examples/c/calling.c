@@ -56,10 +56,10 @@ static call_kind some_kind(caller *c) {
     static const unsigned char weight[CALLS] = {
         [CALL_LEAVE] = 1, [CALL_BEGIN] = 1, [CALL_ANSWER] = 20, [CALL_KEEP] = 12, [CALL_MAKE] = 30,
         [CALL_MAKE_AT] = 8, [CALL_READ] = 50, [CALL_READ_ALL] = 6, [CALL_WRITE] = 40,
-        [CALL_SWAP] = 20, [CALL_SAME] = 20 };
+        [CALL_SWAP] = 20, [CALL_SAME] = 20, [CALL_PLACE] = 4 };
     if (!c->model.in && !by_chance(c, 4)) return CALL_BEGIN;
     if (by_chance(c, 600)) return CALL_END;
-    uint64_t at = pick(&c->random, 208), kind = 0;
+    uint64_t at = pick(&c->random, 212), kind = 0;
     while (at >= weight[kind]) at -= weight[kind++];
     return (call_kind)kind;
 }
@@ -105,6 +105,7 @@ static heap_code made_call(heap_mut *m, call *c) {
     case CALL_WRITE: return heap_write(m, c->place, c->field, c->value[0]);
     case CALL_SWAP: return heap_swap(m, c->place, c->field, c->value[0], c->value[1]);
     case CALL_SAME: return heap_same(m, c->place, c->other, &c->same);
+    case CALL_PLACE: return heap_place(m, c->place, &c->at);
     default: return HEAP_OK;
     }
 }

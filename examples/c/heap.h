@@ -1,6 +1,7 @@
 /* heap.h: a heap of cells with five fields, collected while the threads of the program go on. Link
  * with libheap_c.a and the kit's liblibc_c.a. Every call tests what it is given and answers a code:
- * HEAP_OK, or why nothing has changed. If several reasons apply it may answer any of them.
+ * HEAP_OK, or why nothing has changed; but of a move of private records what is done stays. If
+ * several reasons apply it may answer any of them.
  *
  * What C owes, since no call can test it:
  *  1 the declarations are these, on x86-64 Linux; some kilobytes of stack are free at each call;

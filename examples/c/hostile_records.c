@@ -448,10 +448,35 @@ static void lets_go(world *w) {
     w->holds = holds;
 }
 
+/* A handle that is zero, or out: each call says so, and gives nothing. */
+static void refuses_all(heap_mut *m, heap_code code) {
+    size_t place = STALE;
+    heap_val out = heap_num(STALE), all[HEAP_FIELDS], of = heap_ref(0);
+    const uint8_t path[] = { 0 };
+    HOLDS(heap_why(heap_new(m, 0, 0, 0, 0, 0, 0)) == code);
+    HOLDS(heap_get(m, of, 0, &out) == code);
+    HOLDS(heap_get_all(m, of, all, HEAP_FIELDS) == code);
+    HOLDS(heap_walk(m, of, path, 1, &out) == code);
+    HOLDS(heap_roots(m) == 0);
+    HOLDS(heap_push(m, heap_null()) == code);
+    HOLDS(heap_pop(m, 0) == code);
+    HOLDS(heap_root(m, 0, &out) == code);
+    HOLDS(heap_set(m, 0, heap_null()) == code);
+    HOLDS(heap_place(m, 0, &place) == code);
+    HOLDS(heap_reserve(m, HEAP_FIRST, 0, 0) == code);
+    HOLDS(heap_share(m, HEAP_FIRST, 1) == code);
+    HOLDS(heap_promote(m, (heap_val){ HEAP_REC, 0 }, 1, &place) == code);
+    HOLDS(heap_release(m, HEAP_FIRST) == code);
+    HOLDS(place == STALE && out.tag == HEAP_NUM && out.n == STALE);
+}
+
 static void goes_out(world *w) {
+    heap_mut none = HEAP_ZERO;
     if (below(w, 500) > 0) return;
+    refuses_all(&none, HEAP_NO_HANDLE);
+    HOLDS(heap_records(&none, 1, 1) == HEAP_NO_HANDLE && heap_records(w->m, 1, 1) != HEAP_OK);
     MUST(heap_end(w->m));
-    HOLDS(heap_why(heap_new(w->m, 0, 0, 0, 0, 0, 0)) == HEAP_NOT_IN && heap_roots(w->m) == 0);
+    refuses_all(w->m, HEAP_NOT_IN);
     MUST(heap_begin(w->m));
     w->lives = w->rooted = w->boxed = 0;
     w->holds = HEAP_FIRST;

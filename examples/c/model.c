@@ -123,6 +123,7 @@ static unsigned wrong(const model *m, const call *c) {
     case CALL_SWAP: return swap_codes(m, c);
     case CALL_SAME:
         return is_place(m, c->place) && is_place(m, c->other) ? 0 : CODE(HEAP_BAD_PLACE);
+    case CALL_PLACE: return is_place(m, c->place) ? 0 : CODE(HEAP_BAD_PLACE);
     default: return 0;
     }
 }
@@ -231,6 +232,7 @@ const char *model_takes(model *m, const call *c) {
     case CALL_WRITE: *field_of(m, c) = known(m, &c->value[0]); return NULL;
     case CALL_SWAP: *field_of(m, c) = known(m, &c->value[1]); return NULL;
     case CALL_SAME: return compared(m, c);
+    case CALL_PLACE: return c->at == c->place ? NULL : "a place has another number";
     default: return NULL;
     }
 }

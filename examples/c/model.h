@@ -29,7 +29,7 @@ typedef struct {
 
 typedef enum {
     CALL_LEAVE, CALL_BEGIN, CALL_END, CALL_ANSWER, CALL_KEEP, CALL_MAKE, CALL_MAKE_AT, CALL_READ,
-    CALL_READ_ALL, CALL_WRITE, CALL_SWAP, CALL_SAME, CALLS
+    CALL_READ_ALL, CALL_WRITE, CALL_SWAP, CALL_SAME, CALL_PLACE, CALLS
 } call_kind;
 
 /* A call with its arguments, and what it gave back. */

@@ -1,7 +1,7 @@
 -- What the calls that move private records answer, code by code, and what they leave.
 -- Source: this project's.
-use Rattle.std.specs.Prelude.{ℕ, ◌≡◌, ◌≢◌, ◌<◌, ◌≤◌, ◌+◌, ◌/◌, ◌⊎◌, Bool, true, false, List, []}
-use Rattle.std.specs.Prelude.{◌∷◌, Ok, Err, length, max, min, slice_index_or}
+use Rattle.std.specs.Prelude.{ℕ, ◌≡◌, ◌<◌, ◌≤◌, ◌+◌, ◌/◌, ◌⊎◌, Bool, true, false, List, []}
+use Rattle.std.specs.Prelude.{◌∷◌, Ok, Err, length, max, slice_index_or}
 use Rattle.std.specs.List.{SameBelow}
 use Rattle.std.specs.declared.result.Result.{Result}
 use Rattle.aged_nursery.specs.Survivors.{AreSurvivors}
@@ -20,9 +20,10 @@ use Rattle.promotion.specs.Sharing.{known_terms}
 use Rattle.record_copying.specs.Copies.{CopiesUpTo, KeepCopies}
 use Rattle.sorted_boxes.specs.Sorts.{SortList, holds_record}
 use Rattle.heap_c.specs.Calls.{IsIn, KeepsChosen}
-use Rattle.heap_c.specs.Holding.{Held, Mutator, Owned}
+use Rattle.heap_c.specs.Holding.{Held, Mutator, Owned, turns_of}
 use Rattle.heap_c.specs.Records.{NamesRecord}
 use Rattle.heap_c.specs.Refusing.{IsOut, NoRoomFor, held_of}
+use Rattle.heap_c.specs.Turns.{SteadyAfter}
 use Rattle.heap_c.specs.declared.codes.Code.{Code}
 use Rattle.heap_c.specs.declared.codes.Code.TheVariants as code
 use Rattle.heap_c.specs.declared.values.HeapVal.{HeapVal}
@@ -181,12 +182,9 @@ module _ (m later : Owned) (base records places : ℕ) where
   MakesRoom code.Spent = (m.local.turn ≡ 4294967295) × (later ≡ m)
   MakesRoom c = SharesFor m later base places c
 
--- Where the turn counts on, records may have moved, and places from the base on: of the places that
--- were steady those below it are.
+-- of a call that may have moved places from a base on: which are steady still
 abbrev pub Steadies : (base : ℕ) → (m later : Mutator) → Type 0
-Steadies base m later =
-    ((later.owned.local.turn ≡ m.owned.local.turn) × (later.steady ≡ m.steady))
-    ⊎ ((later.owned.local.turn ≢ m.owned.local.turn) × (later.steady ≡ min m.steady base))
+Steadies base m later = SteadyAfter (turns_of m) later.owned.local.turn base later.steady
 
 -- of a call that does this and may move places from a base on
 abbrev pub OnPlaces : (base : ℕ) → (Owned → Owned → Code → Type 0) → Mutator → Mutator → Code

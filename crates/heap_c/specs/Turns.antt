@@ -4,7 +4,7 @@
 -- has its index as its number. Any other has the turn of private records in it, as a reference to a
 -- record has, so that a number from before a move names nothing.
 -- Source: this project's.
-use Rattle.std.specs.Prelude.{ℕ, ◌≡◌, ◌<◌, ◌≤◌, ◌+◌, ◌*◌, ◌%◌, ◌⊎◌}
+use Rattle.std.specs.Prelude.{ℕ, ◌≡◌, ◌≢◌, ◌<◌, ◌≤◌, ◌+◌, ◌*◌, ◌%◌, ◌⊎◌, min}
 use Rattle.heap_c.specs.declared.turns.Turns.{Turns}
 
 -- the number of a reference: its turn, and the number of its record, or the index of its place
@@ -22,3 +22,9 @@ NamesNone t n = (place : ℕ) → NamesPlace t n place → ⊥
 -- The number that is given to C. A mutator has fewer than 2^32 places (heap_seat).
 abbrev pub IsNumber : Turns → (n place : ℕ) → Type 0
 IsNumber t n place = NamesPlace t n (place % 4294967296)
+
+-- Below which place none has moved, once this is the turn. If it is another one than it was, places
+-- may have moved from the base on.
+abbrev pub SteadyAfter : Turns → (turn base steady : ℕ) → Type 0
+SteadyAfter t turn base steady = ((turn ≡ t.turn) × (steady ≡ t.steady))
+    ⊎ ((turn ≢ t.turn) × (steady ≡ min t.steady base))

@@ -549,7 +549,7 @@ impl Mine {
         ensures shared { SharesRoots self.old.owned self.new.owned base most result }
         ensures steady { Steadies base self.old self.new }
     {
-        let turn = self.turns().turn;
+        let turns = self.turns();
         let mut cells = FreeCells::new(&self.sharing, self.wait);
         let code = moving::share(
             &self.heap,
@@ -562,9 +562,7 @@ impl Mine {
             most,
         );
         self.wait = cells.wait;
-        if self.turns().turn != turn {
-            self.steady = self.steady.min(base as u64);
-        }
+        self.steady = turns.steady_after(self.turns().turn, base);
         code
     }
 
@@ -573,7 +571,7 @@ impl Mine {
         ensures reserved { MakesRoom self.old.owned self.new.owned base records places result }
         ensures steady { Steadies base self.old self.new }
     {
-        let turn = self.turns().turn;
+        let turns = self.turns();
         let mut cells = FreeCells::new(&self.sharing, self.wait);
         let code = moving::reserve(
             &self.heap,
@@ -587,9 +585,7 @@ impl Mine {
             places,
         );
         self.wait = cells.wait;
-        if self.turns().turn != turn {
-            self.steady = self.steady.min(base as u64);
-        }
+        self.steady = turns.steady_after(self.turns().turn, base);
         code
     }
 

@@ -1,6 +1,6 @@
 //! How C names places: a number that was given before places may have moved names none.
 ghost use Rattle.std.specs.Prelude.{◌≡◌, ◌*◌, MatchOption};
-ghost use Rattle.heap_c.specs.Turns.{IsNumber, NamesNone, NamesPlace};
+ghost use Rattle.heap_c.specs.Turns.{IsNumber, NamesNone, NamesPlace, SteadyAfter};
 
 /// How many numbers a turn has, for places and for private records.
 pub(crate) const NUMBERS: u64 = 1 << 32;
@@ -48,6 +48,18 @@ impl Turns {
             index
         } else {
             self.start() + index
+        }
+    }
+
+    /// Below which place none has moved, once this is the turn: where it is another one than it was,
+    /// places may have moved from `base` on.
+    pub(crate) fn steady_after(self, turn: u32, base: usize) -> u64
+        ensures steady { SteadyAfter self turn base result }
+    {
+        if turn == self.turn {
+            self.steady
+        } else {
+            self.steady.min(base as u64)
         }
     }
 }
