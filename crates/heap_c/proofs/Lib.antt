@@ -14,4 +14,5 @@ pub mod Reserving
 pub mod RootSorts
 pub mod Staying
 pub mod Steps
+pub mod Turning
 pub mod Unsplit

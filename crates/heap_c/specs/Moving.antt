@@ -23,7 +23,7 @@ use Rattle.heap_c.specs.Calls.{IsIn, KeepsChosen}
 use Rattle.heap_c.specs.Holding.{Held, Mutator, Owned, turns_of}
 use Rattle.heap_c.specs.Records.{NamesRecord}
 use Rattle.heap_c.specs.Refusing.{IsOut, NoRoomFor, held_of}
-use Rattle.heap_c.specs.Turns.{SteadyAfter}
+use Rattle.heap_c.specs.Turns.{Renumbers, SteadyAfter}
 use Rattle.heap_c.specs.declared.codes.Code.{Code}
 use Rattle.heap_c.specs.declared.codes.Code.TheVariants as code
 use Rattle.heap_c.specs.declared.values.HeapVal.{HeapVal}
@@ -182,9 +182,11 @@ module _ (m later : Owned) (base records places : ℕ) where
   MakesRoom code.Spent = (m.local.turn ≡ 4294967295) × (later ≡ m)
   MakesRoom c = SharesFor m later base places c
 
--- of a call that may have moved places from a base on: which are steady still
+-- Of a call that may have moved places from a base on: which are steady still, and what their
+-- numbers from before name.
 abbrev pub Steadies : (base : ℕ) → (m later : Mutator) → Type 0
 Steadies base m later = SteadyAfter (turns_of m) later.owned.local.turn base later.steady
+    × (m.owned.local.turn < later.owned.local.turn → Renumbers (turns_of m) (turns_of later))
 
 -- of a call that does this and may move places from a base on
 abbrev pub OnPlaces : (base : ℕ) → (Owned → Owned → Code → Type 0) → Mutator → Mutator → Code

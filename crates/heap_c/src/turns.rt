@@ -1,6 +1,6 @@
 //! How C names places: a number that was given before places may have moved names none.
-ghost use Rattle.std.specs.Prelude.{◌≡◌, ◌*◌, MatchOption};
-ghost use Rattle.heap_c.specs.Turns.{IsNumber, NamesNone, NamesPlace, SteadyAfter};
+ghost use Rattle.std.specs.Prelude.{◌≡◌, ◌<◌, ◌*◌, MatchOption};
+ghost use Rattle.heap_c.specs.Turns.{IsNumber, NamesNone, NamesPlace, Renumbers, SteadyAfter};
 
 /// How many numbers a turn has, for places and for private records.
 pub(crate) const NUMBERS: u64 = 1 << 32;
@@ -55,6 +55,8 @@ impl Turns {
     /// places may have moved from `base` on.
     pub(crate) fn steady_after(self, turn: u32, base: usize) -> u64
         ensures steady { SteadyAfter self turn base result }
+        ensures renumbers { self.turn < turn → Renumbers self (record { turn = turn;
+            steady = result; }) }
     {
         if turn == self.turn {
             self.steady
