@@ -26,4 +26,8 @@ module _ (t later : Turns) (le : later.steady ≤ t.steady) (next : t.turn < lat
       let is = at.1 in let same = too.1 in omega (arith, lt, next, is, same)
 
   pub renumbered : Renumbers t later
-  renumbered = record { kept = kept; stale = stale }
+  renumbered = record {
+    kept = kept;
+    stale = stale;
+    records = λ number other lt same. omega (arith, lt, next, same);
+  }
