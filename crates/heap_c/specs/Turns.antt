@@ -30,8 +30,8 @@ SteadyAfter t turn base steady = ((turn ≡ t.turn) × (steady ≡ t.steady))
     ⊎ ((turn ≢ t.turn) × (steady ≡ min t.steady base))
 
 -- After a move each number from before names the place that it did, if that is steady still, and
--- none if it is not; and a reference from before is that of no record. A mutator has fewer than 2^32
--- places (heap_seat), and fewer private records (heap_records).
+-- none if it is not; and a reference from before is that of no record. A mutator has fewer than
+-- 2^32 places (heap_seat), and fewer private records (heap_records).
 pub record Renumbers (t later : Turns) : Type 0 where
   pub kept : (n place : ℕ) → place < later.steady → NamesPlace t n place → NamesPlace later n place
   pub stale : (n place : ℕ) → later.steady ≤ place → place < 4294967296 → NamesPlace t n place

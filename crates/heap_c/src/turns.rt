@@ -51,8 +51,8 @@ impl Turns {
         }
     }
 
-    /// Below which place none has moved, once this is the turn: where it is another one than it was,
-    /// places may have moved from `base` on.
+    /// Below which place none has moved, once this is the turn: where it is another one than it
+    /// was, places may have moved from `base` on.
     pub(crate) fn steady_after(self, turn: u32, base: usize) -> u64
         ensures steady { SteadyAfter self turn base result }
         ensures renumbers { self.turn < turn → Renumbers self (record { turn = turn;
