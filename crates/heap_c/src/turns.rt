@@ -55,8 +55,10 @@ impl Turns {
     /// was, places may have moved from `base` on.
     pub(crate) fn steady_after(self, turn: u32, base: usize) -> u64
         ensures steady { SteadyAfter self turn base result }
-        ensures renumbers { self.turn < turn → Renumbers self (record { turn = turn;
-            steady = result; }) }
+        ensures renumbers { self.turn < turn → Renumbers self (record {
+          turn = turn;
+          steady = result;
+        }) }
     {
         if turn == self.turn {
             self.steady
