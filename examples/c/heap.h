@@ -153,7 +153,8 @@ heap_code heap_same(heap_mut *m, size_t one, size_t other, int *same); /* are th
 heap_code heap_records(heap_mut *m, uint32_t records, uint32_t roots);
 /* A private record of five values: null, numbers, private records, and places of shared records. A
  * byte of `kinds` for each tag, that of the first field lowest; heap_record below takes values. It
- * never moves a record. Or HEAP_NONE, with the code: NO_HANDLE, NOT_IN, BAD_VALUE, NO_RECORDS. */
+ * never moves a record. Or HEAP_NONE, with the code: NO_HANDLE, NOT_IN, BAD_VALUE, NO_RECORDS, or
+ * SPENT, where private records have moved as often as they can. */
 heap_val heap_new(heap_mut *m, uint64_t kinds, uint64_t a, uint64_t b, uint64_t c, uint64_t d,
                   uint64_t e);
 /* A field of a private record, or of the cell at a place, which heap_read reads: a cell that it
